@@ -1,0 +1,137 @@
+// What the members differ in: small constant tables, one entry or one row a member, in the order of the member codes.
+ghost use mathlib.Core.Path.{_≡_};
+ghost use Prim.Native.Nat.{_≤_, _<_};
+ghost use Rattle.map.specs.Map.{linesOf, columnsOf, switchBytesOf, firstMask, firstReset};
+
+const LINES: [usize; 5] = [11, 1, 4, 7, 8];
+
+// Bit s is set where the member has sink s.
+const COLUMNS: [u32; 5] = [0x3FFFF, 0x3FFFF, 0x3FFFF, 0x30303, 0x3FFFF];
+
+// How many switch bytes, from 043h on, the member's summary table lists. The LP5864 lists one more than its lines have.
+const SWITCH_BYTES: [usize; 5] = [33, 3, 13, 21, 24];
+
+// The reserved bits of 000h to 00Bh, a row of twelve for each member. The LP5861T's summary table adds some.
+const FIRST_MASKS: [u8; 60] = [
+    0xFE,
+    0x80,
+    0xF0,
+    0x00,
+    0x00,
+    0x00,
+    0x00,
+    0x00,
+    0x00,
+    0x80,
+    0x80,
+    0x80,
+    0xFE,
+    0xF8,
+    0xF9,
+    0x03,
+    0xF1,
+    0x00,
+    0x00,
+    0x00,
+    0x00,
+    0x80,
+    0x80,
+    0x80,
+    0xFE,
+    0x80,
+    0xF0,
+    0x00,
+    0x00,
+    0x00,
+    0x00,
+    0x00,
+    0x00,
+    0x80,
+    0x80,
+    0x80,
+    0xFE,
+    0x80,
+    0xF0,
+    0x00,
+    0x00,
+    0x00,
+    0x00,
+    0x00,
+    0x00,
+    0x80,
+    0x80,
+    0x80,
+    0xFE,
+    0x80,
+    0xF0,
+    0x00,
+    0x00,
+    0x00,
+    0x00,
+    0x00,
+    0x00,
+    0x80,
+    0x80,
+    0x80,
+];
+
+// The reset values of 000h to 00Bh: all five summary tables have the same.
+const FIRST_RESETS: [u8; 12] = [
+    0x00,
+    0x5E,
+    0x00,
+    0x00,
+    0x47,
+    0xFF,
+    0xFF,
+    0xFF,
+    0xFF,
+    0x40,
+    0x40,
+    0x40,
+];
+
+// The scan lines of a member; a code above 4 has none.
+pub fn lines(member: usize) -> usize
+    ensures { λ r. ⌜ (r ≡ linesOf member) × (r ≤ 11) ⌝ }
+{
+    if member < 5 { LINES[member] } else { 0 }
+}
+
+// The column set of a member.
+pub fn columns(member: usize) -> u32
+    ensures { λ r. ⌜ r ≡ columnsOf member ⌝ }
+{
+    if member < 5 { COLUMNS[member] } else { 0 }
+}
+
+pub fn switch_bytes(member: usize) -> usize
+    ensures { λ r. ⌜ r ≡ switchBytesOf member ⌝ }
+{
+    if member < 5 { SWITCH_BYTES[member] } else { 0 }
+}
+
+// The reserved bits of one of the first twelve registers; all bits elsewhere.
+pub fn first_mask(member: usize, address: usize) -> u8
+    ensures { λ r. ⌜ r ≡ firstMask member address ⌝ }
+{
+    if 4 < member {
+        return 255;
+    }
+    if 11 < address {
+        return 255;
+    }
+    FIRST_MASKS[12 * member + address]
+}
+
+pub fn first_reset(member: usize, address: usize) -> u8
+    ensures { λ r. ⌜ r ≡ firstReset member address ⌝ }
+{
+    if 4 < member {
+        return 0;
+    }
+    if 11 < address {
+        return 0;
+    }
+    FIRST_RESETS[address]
+}
