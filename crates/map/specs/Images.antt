@@ -18,6 +18,9 @@ okByte m a v = ltb v 256 && eqb (bitAnd v (reservedOf m a)) (bitAnd (resetOf m a
 unfoldable pub okAt : ℕ → List ℕ → ℕ → Bool
 okAt m image a = okByte m a (getD image a 0)
 
+unfoldable pub zeroAt : List ℕ → ℕ → Bool
+zeroAt image a = eqb (getD image a 0) 0
+
 -- 064h-0A6h: the fault state, the open bits and the short bits
 unfoldable pub isFault : ℕ → Bool
 isFault a = leb 0x064 a && leb a 0x0A6

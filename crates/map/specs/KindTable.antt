@@ -3,8 +3,8 @@
 use mathlib.Core.Bool.{cond}
 use mathlib.Core.List.{List}
 use Prim.Native.Nat.{ℕ}
-use lib.Dec.{eqb}
-use lib.ListN.{getD}
+use lib.Dec.{ltb, eqb}
+use lib.ListN.{length, getD}
 use Rattle.map.specs.declared.kinds.Kind.{Kind}
 use Rattle.map.specs.declared.kinds.Kind.the-variants.{Config, Group, Switch, FaultState, Open, Short, Command, Current, Pwm, Hole}
 use Rattle.map.specs.Map.{kindOf}
@@ -35,4 +35,4 @@ unfoldable pub kindTable : List ℕ
 kindTable = table kindNumberAt 908
 
 unfoldable pub kindIn : List ℕ → ℕ → Kind
-kindIn kinds a = kindNamed (getD kinds a 9)
+kindIn kinds a = cond (ltb a (length kinds)) (kindNamed (getD kinds a 0)) Hole

@@ -1,6 +1,10 @@
 pub mod Lists
 pub mod ListLaws
 pub mod Map
+pub mod MapLaws
 pub mod KindTable
+pub mod KindLaws
 pub mod Refusals
 pub mod Images
+pub mod ImageLaws
+pub mod Ranges

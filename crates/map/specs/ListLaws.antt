@@ -10,7 +10,7 @@ use native.Mathlib.Decide.{ℕ-discrete}
 use native.Mathlib.Omega.{arith}
 use native.Mathlib.Numerals.{add-one}
 use lib.ListN.{length, getD, set, length-set}
-use lib.Seq.{getD-set-same, getD-set-other}
+use lib.Seq.{getD-set-same, getD-set-other, ext-getD}
 use Rattle.map.specs.Lists.{allFrom, tableFrom, table, filled}
 
 pub and-left : (a b : Bool) → (a && b) ≡ true → a ≡ true
@@ -103,6 +103,13 @@ from-at f (suc n) i (suc k) z h = rw (add-suc, ← suc-add) (from-at f n (suc i)
 pub table-at : (f : ℕ → ℕ) (n k z : ℕ) → k < n → getD (table f n) k z ≡ f k
 unfolding table
 table-at f n k z h = from-at f n 0 k z h ∙ ap f (zero-add k)
+
+pub same-table : (f g : ℕ → ℕ) (n : ℕ) → ((k : ℕ) → k < n → f k ≡ g k) → table f n ≡ table g n
+same-table f g n h =
+    ext-getD 0 (table f n) (table g n) (table-length f n ∙ sym (table-length g n))
+    (λ k l.
+    let u : k < n = omega (arith, table-length f n) in
+    table-at f n k 0 u ∙ h k u ∙ sym (table-at g n k 0 u))
 
 -- ---- filled lists
 

@@ -121,8 +121,11 @@ commonMasks = 0xFE ∷ 0x80 ∷ 0xF0 ∷ 0x00 ∷ 0x00 ∷ 0x00 ∷ 0x00 ∷ 0x0
 abbrev pub lp5861tMasks : List ℕ
 lp5861tMasks = 0xFE ∷ 0xF8 ∷ 0xF9 ∷ 0x03 ∷ 0xF1 ∷ 0x00 ∷ 0x00 ∷ 0x00 ∷ 0x00 ∷ 0x80 ∷ 0x80 ∷ 0x80 ∷ []
 
+unfoldable pub firstMasks : ℕ → List ℕ
+firstMasks m = cond (eqb m 1) lp5861tMasks commonMasks
+
 unfoldable pub firstMask : ℕ → ℕ → ℕ
-firstMask m a = getD (getD (commonMasks ∷ lp5861tMasks ∷ commonMasks ∷ commonMasks ∷ commonMasks ∷ []) m []) a 255
+firstMask m a = cond (ltb m 5) (getD (firstMasks m) a 255) 255
 
 -- "bits of absent sinks": 1 where the column is absent
 unfoldable pub noSink : ℕ → ℕ → ℕ

@@ -1,7 +1,7 @@
 // What the members differ in: small constant tables, one entry or one row a member, in the order of the member codes.
 ghost use mathlib.Core.Path.{_≡_};
 ghost use Prim.Native.Nat.{_≤_, _<_};
-ghost use Rattle.map.specs.Map.{linesOf, columnsOf, switchBytesOf, firstMask, firstReset};
+ghost use Rattle.map.specs.Map.{linesOf, columnsOf, switchBytesOf, firstMasks, firstMask, firstResets, firstReset};
 
 const LINES: [usize; 5] = [11, 1, 4, 7, 8];
 
@@ -11,8 +11,8 @@ const COLUMNS: [u32; 5] = [0x3FFFF, 0x3FFFF, 0x3FFFF, 0x30303, 0x3FFFF];
 // How many switch bytes, from 043h on, the member's summary table lists. The LP5864 lists one more than its lines have.
 const SWITCH_BYTES: [usize; 5] = [33, 3, 13, 21, 24];
 
-// The reserved bits of 000h to 00Bh, a row of twelve for each member. The LP5861T's summary table adds some.
-const FIRST_MASKS: [u8; 60] = [
+// The reserved bits of 000h to 00Bh, and those of the LP5861T, whose summary table adds some.
+const COMMON_MASKS: [u8; 12] = [
     0xFE,
     0x80,
     0xF0,
@@ -25,47 +25,14 @@ const FIRST_MASKS: [u8; 60] = [
     0x80,
     0x80,
     0x80,
+];
+
+const LP5861T_MASKS: [u8; 12] = [
     0xFE,
     0xF8,
     0xF9,
     0x03,
     0xF1,
-    0x00,
-    0x00,
-    0x00,
-    0x00,
-    0x80,
-    0x80,
-    0x80,
-    0xFE,
-    0x80,
-    0xF0,
-    0x00,
-    0x00,
-    0x00,
-    0x00,
-    0x00,
-    0x00,
-    0x80,
-    0x80,
-    0x80,
-    0xFE,
-    0x80,
-    0xF0,
-    0x00,
-    0x00,
-    0x00,
-    0x00,
-    0x00,
-    0x00,
-    0x80,
-    0x80,
-    0x80,
-    0xFE,
-    0x80,
-    0xF0,
-    0x00,
-    0x00,
     0x00,
     0x00,
     0x00,
@@ -111,7 +78,24 @@ pub fn switch_bytes(member: usize) -> usize
     if member < 5 { SWITCH_BYTES[member] } else { 0 }
 }
 
-// The reserved bits of one of the first twelve registers; all bits elsewhere.
+// The reserved bits of the first twelve registers, for a member below 5.
+pub fn first_masks(member: usize) -> [u8; 12]
+    ensures { λ r. ⌜ r ≡ firstMasks member ⌝ }
+{
+    if member == 1 {
+        LP5861T_MASKS
+    } else {
+        COMMON_MASKS
+    }
+}
+
+pub fn first_resets() -> [u8; 12]
+    ensures { λ r. ⌜ r ≡ firstResets ⌝ }
+{
+    FIRST_RESETS
+}
+
+// The reserved bits of one of them; all bits elsewhere.
 pub fn first_mask(member: usize, address: usize) -> u8
     ensures { λ r. ⌜ r ≡ firstMask member address ⌝ }
 {
@@ -121,7 +105,8 @@ pub fn first_mask(member: usize, address: usize) -> u8
     if 11 < address {
         return 255;
     }
-    FIRST_MASKS[12 * member + address]
+    let masks = first_masks(member);
+    masks[address]
 }
 
 pub fn first_reset(member: usize, address: usize) -> u8

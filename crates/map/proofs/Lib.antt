@@ -1,0 +1,4 @@
+pub mod Tables
+pub mod Masks
+pub mod Steps
+pub mod Whole
