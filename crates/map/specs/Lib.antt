@@ -6,5 +6,9 @@ pub mod KindTable
 pub mod KindLaws
 pub mod Refusals
 pub mod Images
+pub mod Carries
+pub mod ByteLaws
+pub mod PlaceLaws
+pub mod WritableLaws
 pub mod ImageLaws
 pub mod Ranges

@@ -253,3 +253,21 @@ reset-none m a h = go (kindOf a)
     go Current = current-none
     go Pwm = refl
     go Hole = refl
+
+pub reserved-none : (m a : ℕ) → 4 < m → reservedOf m a ≡ 255
+unfolding reservedOf reservedAs firstMask groupReserved switchReserved currentReserved pwmReserved
+reserved-none m a h = rw (lines-none m h) (go (kindOf a))
+  where
+    past : (x : ℕ) → numberIn 0 (columnsOf m) x ≡ false
+    past x = number-past 0 (columnsOf m) x (omega arith)
+    go : (k : Kind) → reservedAs k m 0 (columnsOf m) a ≡ 255
+    go Config = rw (le-ltb m 5 h) refl
+    go Group = rw (le-ltb ((a - 0x00C) / 5) 0 (omega arith)) refl
+    go Switch = rw (le-ltb ((a - 0x043) / 3) 0 (omega arith)) refl
+    go FaultState = refl
+    go Open = refl
+    go Short = refl
+    go Command = refl
+    go Current = rw (past (a - 0x100)) refl
+    go Pwm = rw (past ((a - 0x200) / 2), past (a - 0x200)) refl
+    go Hole = refl
