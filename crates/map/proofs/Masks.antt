@@ -1,7 +1,7 @@
 -- Behind the last byte of a line every sink is absent.
 -- Assumes nothing.
 use mathlib.Core.Path.{_≡_}
-use Prim.Native.Nat.{ℕ, _+_, _*_, _<_, _≤_}
+use Prim.Native.Nat.{ℕ, _+_, _*_, _<_}
 use native.Mathlib.Omega.{arith}
 use borrow.Author.Tests.{le-ltb}
 use Rattle.map.specs.Map.{hasColumn, noSink, groupMask, switchMask}

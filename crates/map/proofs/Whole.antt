@@ -1,7 +1,7 @@
 -- An image put together from its ranges.
 -- Assumes nothing.
 use mathlib.Core.Path.{_≡_, refl, sym, ap, subst, _∙_}
-use mathlib.Core.Bool.{Bool, true, false, cond, _&&_, _||_}
+use mathlib.Core.Bool.{Bool, true, false, cond, _&&_}
 use mathlib.Core.List.{List, [], _∷_}
 use Prim.Native.Nat.{ℕ, _+_, _-_, _*_, _/_, _%_, _<_, _≤_}
 use native.Mathlib.Decide.{decLt, decLe}
@@ -12,8 +12,8 @@ use lib.Dec.{ltb, leb, eqb}
 use lib.ListN.{length, getD}
 use lib.Seq.{ext-getD}
 use Rattle.map.specs.Lists.{allFrom, table, tableFrom, filled}
-use Rattle.map.specs.ListLaws.{and-left, and-right, all-at, all-from, all-same, all-split, table-at, table-length, same-table, filled-length, filled-in, filled-out}
-use Rattle.map.specs.Map.{linesOf, columnsOf, groupMask, switchMask, groupReserved, switchReserved, reservedOf, firstMasks, firstMask, firstResets, firstReset, switchBytesOf, switchReset, resetOf}
+use Rattle.map.specs.ListLaws.{all-at, all-from, all-same, table-at, table-length, same-table, filled-length, filled-in, filled-out}
+use Rattle.map.specs.Map.{linesOf, columnsOf, groupMask, switchMask, groupReserved, switchReserved, reservedOf, firstMasks, firstResets, switchBytesOf, switchReset, resetOf}
 use Rattle.map.specs.MapLaws.{Empty, lines-most, reserved-first, reserved-group, reserved-switch, reset-first, reset-group, reset-switch, reset-pwm, reset-none, empty-groups, empty-middle, empty-currents, empty-gap, empty-levels}
 use Rattle.map.specs.Images.{okAt, zeroAt, isFault, okOrFault, imageOk, registersOk, resetImage}
 use Rattle.map.specs.ImageLaws.{fit-ok, empty-range, Registers, image-ok, registers-ok, ok-registers, image-registers}

@@ -1,21 +1,21 @@
 -- Laws of Images.antt: the test of a byte against its condition, the test of an image against the condition at each address.
 -- Assumes nothing.
-use mathlib.Core.Path.{_≡_, refl, sym, ap, _∙_}
-use mathlib.Core.Bool.{Bool, true, false, cond, _&&_, _||_, true≢false}
+use mathlib.Core.Path.{_≡_, refl, sym, _∙_}
+use mathlib.Core.Bool.{Bool, true, false, _&&_, _||_, true≢false}
 use mathlib.Core.List.{List}
 use Prim.Native.Nat.{ℕ, _+_, _<_, _≤_}
 use native.Mathlib.Nat.{mod-eq-of-lt}
 use native.Mathlib.Decide.{decLt}
 use native.Mathlib.Omega.{arith}
-use borrow.Author.Tests.{eqb-true, eq-eqb, ne-eqb, lt-ltb, le-ltb, ltb-true, leb-true, lt-leb}
-use lib.Dec.{ltb, leb, eqb}
+use borrow.Author.Tests.{eqb-true, eq-eqb, ne-eqb, lt-ltb, le-ltb, ltb-true}
+use lib.Dec.{ltb, eqb}
 use lib.Bits.{bitAnd, and-mask, and-zero-r}
 use lib.ListN.{length, getD}
 use Rattle.map.specs.Map.{reservedOf, resetOf}
 use Rattle.map.specs.MapLaws.{Empty}
-use Rattle.map.specs.Lists.{allFrom, table}
-use Rattle.map.specs.ListLaws.{and-left, and-right, all-at, all-from, all-same, table-at, table-length}
-use Rattle.map.specs.Images.{okByte, okAt, zeroAt, isFault, okOrFault, imageOk, registersOk, resetImage}
+use Rattle.map.specs.Lists.{allFrom}
+use Rattle.map.specs.ListLaws.{and-left, and-right, all-at, all-from, all-same}
+use Rattle.map.specs.Images.{okByte, okAt, zeroAt, isFault, okOrFault, imageOk, registersOk}
 
 -- ---- one byte
 

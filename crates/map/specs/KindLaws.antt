@@ -1,13 +1,11 @@
 -- The address table's rule: the entry at each of the 908 addresses names the kind that the formulas give it.
 -- Assumes nothing.
 use mathlib.Core.Path.{_≡_, refl, sym, ap, _∙_}
-use mathlib.Core.Bool.{cond}
 use mathlib.Core.List.{List}
 use Prim.Native.Nat.{ℕ, _<_, _≤_}
 use native.Mathlib.Decide.{decLt}
 use native.Mathlib.Omega.{arith}
 use borrow.Author.Tests.{lt-ltb, le-ltb, ne-eqb}
-use lib.Dec.{eqb}
 use lib.ListN.{length, getD}
 use Rattle.map.specs.declared.kinds.Kind.{Kind}
 use Rattle.map.specs.declared.kinds.Kind.the-variants.{Config, Group, Switch, FaultState, Open, Short, Command, Current, Pwm, Hole}

@@ -12,3 +12,4 @@ pub mod PlaceLaws
 pub mod WritableLaws
 pub mod ImageLaws
 pub mod Ranges
+pub mod MapExamples

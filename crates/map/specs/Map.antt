@@ -2,10 +2,10 @@
 -- d a dot's number, a an address, n a number of lines, cs a column set. A test is a Bool, and every definition is total:
 -- a code above 4 has no line, no column and no reset value but 0, and an address above 38Bh is a hole.
 -- Assumes nothing.
-use mathlib.Core.Bool.{Bool, true, false, cond, _&&_, _||_}
+use mathlib.Core.Bool.{Bool, cond, _&&_, _||_}
 use mathlib.Core.List.{List, [], _∷_}
 use Prim.Native.Nat.{ℕ, _+_, _-_, _*_, _/_, _%_, _^_}
-use lib.Dec.{ltb, leb, eqb}
+use lib.Dec.{ltb, eqb}
 use lib.ListN.{getD}
 use Rattle.map.specs.declared.kinds.Kind.{Kind}
 use Rattle.map.specs.declared.kinds.Kind.the-variants.{Config, Group, Switch, FaultState, Open, Short, Command, Current, Pwm, Hole}
@@ -110,6 +110,17 @@ placeAs f l s = places.the-variants.At (addressOf f l s) (shiftOf f s)
 
 unfoldable pub placeOf : fields.Field → ℕ → ℕ → ℕ → places.Place
 placeOf f m l s = cond (isDot m l s) (placeAs f l s) places.the-variants.Absent
+
+-- "001h: line number bits 6-3, data mode bits 2-1"
+unfoldable pub lineNumber : ℕ → ℕ
+lineNumber v = v / 2 ^ 3 % 2 ^ 4
+
+unfoldable pub dataMode : ℕ → ℕ
+dataMode v = v / 2 ^ 1 % 2 ^ 2
+
+-- "data mode 0 or 1 holds 8 bits at 200h + d; mode 2 or 3 holds 16 bits at 200h + 2 × d"
+unfoldable pub isWide : ℕ → Bool
+isWide mode = leb 2 mode
 
 -- ---- Reserved bits
 

@@ -1,7 +1,7 @@
 -- Laws of the map by ranges of addresses: what each range's reserved bits and reset values are, for every member.
 -- Assumes nothing.
-use mathlib.Core.Path.{_≡_, refl, sym, ap, _∙_}
-use mathlib.Core.Bool.{Bool, true, false, cond, _&&_, _||_}
+use mathlib.Core.Path.{_≡_, refl, ap, _∙_}
+use mathlib.Core.Bool.{Bool, true, false, cond, _&&_}
 use mathlib.Core.List.{[], _∷_}
 use Prim.Native.Nat.{ℕ, _+_, _-_, _*_, _/_, _%_, _^_, _<_, _≤_}
 use native.Mathlib.Decide.{decLt}
@@ -260,6 +260,7 @@ reserved-none m a h = rw (lines-none m h) (go (kindOf a))
   where
     past : (x : ℕ) → numberIn 0 (columnsOf m) x ≡ false
     past x = number-past 0 (columnsOf m) x (omega arith)
+
     go : (k : Kind) → reservedAs k m 0 (columnsOf m) a ≡ 255
     go Config = rw (le-ltb m 5 h) refl
     go Group = rw (le-ltb ((a - 0x00C) / 5) 0 (omega arith)) refl

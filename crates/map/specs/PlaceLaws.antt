@@ -1,19 +1,18 @@
 -- Places of dots: where they lie, that none of their bits is reserved, and that two of them never meet.
 -- Assumes nothing.
-use mathlib.Core.Path.{_≡_, refl, sym, ap, subst, _∙_}
-use mathlib.Core.Logic.{_⊎_, inl, inr, ⊎-elim}
+use mathlib.Core.Path.{_≡_, refl, ap, subst, _∙_}
+use mathlib.Core.Logic.{_⊎_, inl, inr}
 use mathlib.Core.Bool.{Bool, true, false, cond, not, _&&_, _||_, false≢true}
 use mathlib.Core.List.{[], _∷_}
-use Prim.Native.Nat.{ℕ, _+_, _-_, _*_, _/_, _%_, _^_, _<_, _≤_}
-use native.Mathlib.Nat.{mul-le-mul-left, mul-suc}
+use Prim.Native.Nat.{ℕ, _+_, _*_, _/_, _%_, _^_, _<_, _≤_}
 use native.Mathlib.Decide.{ℕ-discrete, decLt}
 use native.Mathlib.Omega.{arith}
-use borrow.Author.Tests.{lt-ltb, le-ltb, ltb-true, leb-true, eqb-true, eq-eqb}
+use borrow.Author.Tests.{lt-ltb, leb-true, eqb-true}
 use lib.Dec.{ltb, leb, eqb}
 use lib.ListN.{getD}
 use Rattle.map.specs.declared.dots.Field.{Field}
 use Rattle.map.specs.declared.dots.Field.the-variants.{Group, Switch, Open, Short, Current, Pwm8, Pwm16}
-use Rattle.map.specs.Map.{linesOf, columnsOf, hasColumn, dotIn, isDot, numberIn, noSink, dotNumber, addressOf, shiftOf, widthOf, groupMask, switchMask, groupReserved, switchReserved, currentReserved, pwmReserved, reservedOf, writableOf}
+use Rattle.map.specs.Map.{linesOf, columnsOf, hasColumn, dotIn, isDot, numberIn, noSink, dotNumber, addressOf, shiftOf, widthOf, groupMask, switchMask, groupReserved, switchReserved, currentReserved, pwmReserved, reservedOf}
 use Rattle.map.specs.MapLaws.{lines-most, lines-none, dot-line, dot-sink, reserved-group, reserved-switch, reserved-current, reserved-pwm}
 use Rattle.map.specs.Lists.{allFrom}
 use Rattle.map.specs.ListLaws.{and-left, and-right, all-at}
@@ -36,6 +35,7 @@ number-dot m l s e = rw (line l s (dot-sink m l s e), sink l s (dot-sink m l s e
   where
     line : (l s : ℕ) → s < 18 → (18 * l + s) / 18 ≡ l
     line l s h = omega arith
+
     sink : (l s : ℕ) → s < 18 → (18 * l + s) % 18 ≡ s
     sink l s h = omega arith
 
@@ -84,6 +84,7 @@ group-reserved m l s e =
   where
     sum : (l s : ℕ) → 0x00C + 5 * l + s / 4 ≡ 0x00C + (5 * l + s / 4)
     sum l s = omega arith
+
     byte : (l s : ℕ) → s < 18 → (5 * l + s / 4) % 5 ≡ s / 4
     byte l s h = omega arith
 
@@ -98,6 +99,7 @@ switch-reserved m l s e =
   where
     sum : (l s : ℕ) → 0x043 + 3 * l + s / 8 ≡ 0x043 + (3 * l + s / 8)
     sum l s = omega arith
+
     byte : (l s : ℕ) → s < 18 → (3 * l + s / 8) % 3 ≡ s / 8
     byte l s h = omega arith
 
@@ -124,12 +126,13 @@ dot-free m l s e = record {
   pwm8 = pwm-free m (dotNumber l s) (dotNumber l s) (number-dot m l s e) (omega (arith, dot-number m l s e)) (inl refl);
   low = pwm-free m (dotNumber l s) (2 * dotNumber l s) (number-dot m l s e) (omega (arith, dot-number m l s e)) (inr (omega arith));
   high =
-    ap (reservedOf m) (next (2 * dotNumber l s))
-    ∙ pwm-free m (dotNumber l s) (2 * dotNumber l s + 1) (number-dot m l s e) (omega (arith, dot-number m l s e)) (inr (omega arith));
+      ap (reservedOf m) (next (2 * dotNumber l s))
+      ∙ pwm-free m (dotNumber l s) (2 * dotNumber l s + 1) (number-dot m l s e) (omega (arith, dot-number m l s e)) (inr (omega arith));
 }
   where
     sinks : (groupMask (columnsOf m) (s / 4) / 2 ^ (2 * (s % 4)) % 2 ^ 2 ≡ 0) × (switchMask (columnsOf m) (s / 8) / 2 ^ (s % 8) % 2 ^ 1 ≡ 0)
     sinks = free-sink m s (dot-member m l s e) (dot-sink m l s e) (dot-column m l s e)
+
     next : (x : ℕ) → 0x200 + x + 1 ≡ 0x200 + (x + 1)
     next x = omega arith
 
@@ -217,8 +220,10 @@ places-apart f g l s k t hl hs hk ht one n = go (ℕ-discrete (areaOf f) (areaOf
   where
     fl : (8 * areaStart (areaOf f) ≤ firstBit f l s) × (firstBit f l s + widthOf f ≤ 8 * areaStart (areaOf f + 1))
     fl = in-area f l s hl hs
+
     gk : (8 * areaStart (areaOf g) ≤ firstBit g k t) × (firstBit g k t + widthOf g ≤ 8 * areaStart (areaOf g + 1))
     gk = in-area g k t hk ht
+
     go : Dec (areaOf f ≡ areaOf g) → Dec (areaOf f < areaOf g) → Apart f l s g k t
     go (yes e) d = subst (λ (x : Field). Apart f l s x k t) (one e) (same-field f l s k t hs ht (n (one e)))
     go (no u) (yes h) = inl (omega (arith, fl .1, gk .0, area-rises (areaOf f) (areaOf g) h (area-small g)))

@@ -1,3 +1,5 @@
+-- `map::dots::dot_number` meets its contract.
+-- Assumes nothing.
 use mathlib.Core.Path.{sym, _∙_}
 use native.Mathlib.Omega.{arith}
 use Rattle.map.specs.Map.{numberOf}
@@ -5,28 +7,20 @@ use Rattle.map.specs.MapLaws.{dot-line, dot-sink, lines-most}
 use borrow.Author.Needs.{needs}
 use Rattle.map.proofs.dots.dot_number.Statement.{statement}
 use Rattle.map.proofs.dots.dot_number.Tie as tie
-use Rattle.map.proofs.dots.dot_number.Reads as reads
-use Rattle.map.proofs.dots.dot_number.Lts as lts
-use Rattle.map.proofs.dots.is_dot.Reads as is-dot-reads
 
--- src/dots.rt:72:8
 is-dot-requires : tie.Need-is-dot-requires
 is-dot-requires c κs = search needs
 
--- src/dots.rt:73:23
 mul-t6 : tie.Need-mul-t6
 mul-t6 c = omega (arith, dot-line _ _ _ (sym (c .before .is-dot .ensures) ∙ c .if1 .taken), lines-most (c .before .before .args .member))
 
--- src/dots.rt:73:23
 add-t7 : tie.Need-add-t7
 add-t7 c = omega (arith, dot-line _ _ _ (sym (c .before .is-dot .ensures) ∙ c .if1 .taken), dot-sink _ _ _ (sym (c .before .is-dot .ensures) ∙ c .if1 .taken), lines-most (c .before .before .args .member))
 
--- src/dots.rt:69:1
 returns : tie.Need-returns
 unfolding numberOf
 returns c = simp (sym (c .before .is-dot .ensures) ∙ c .if1 .taken)
 
--- src/dots.rt:69:1
 returns-2 : tie.Need-returns-2
 unfolding numberOf
 returns-2 c = simp (sym (c .before .is-dot .ensures) ∙ c .if1 .left)

@@ -1,145 +1,112 @@
+-- `map::dots::place_as` meets its contract.
+-- Assumes nothing.
 use Rattle.map.specs.Map.{placeAs, addressOf, shiftOf}
 use borrow.Author.Needs.{needs}
 use Rattle.map.proofs.dots.place_as.Statement.{statement}
 use Rattle.map.proofs.dots.place_as.Tie as tie
-use Rattle.map.proofs.dots.place_as.Reads as reads
-use Rattle.map.proofs.dots.place_as.Lts as lts
 
--- src/dots.rt:99:18
 mul-number : tie.Need-mul-number
 mul-number c = search needs
 
--- src/dots.rt:99:18
 add-number : tie.Need-add-number
 add-number c = search needs
 
--- src/dots.rt:102:30
 enum-told : tie.Need-enum-told
 enum-told c = search needs
 
--- src/dots.rt:102:30
 mul-t7 : tie.Need-mul-t7
 mul-t7 c = search needs
 
--- src/dots.rt:102:22
 add-t8 : tie.Need-add-t8
 add-t8 c = search needs
 
--- src/dots.rt:102:22
 add-t10 : tie.Need-add-t10
 add-t10 c = search needs
 
--- src/dots.rt:103:20
 mul-t12 : tie.Need-mul-t12
 mul-t12 c = search needs
 
--- src/dots.rt:106:30
 enum-told-2 : tie.Need-enum-told-2
 enum-told-2 c = search needs
 
--- src/dots.rt:106:30
 mul-t13 : tie.Need-mul-t13
 mul-t13 c = search needs
 
--- src/dots.rt:106:22
 add-t14 : tie.Need-add-t14
 add-t14 c = search needs
 
--- src/dots.rt:106:22
 add-t16 : tie.Need-add-t16
 add-t16 c = search needs
 
--- src/dots.rt:110:30
 enum-told-3 : tie.Need-enum-told-3
 enum-told-3 c = search needs
 
--- src/dots.rt:110:30
 mul-t18 : tie.Need-mul-t18
 mul-t18 c = search needs
 
--- src/dots.rt:110:22
 add-t19 : tie.Need-add-t19
 add-t19 c = search needs
 
--- src/dots.rt:110:22
 add-t21 : tie.Need-add-t21
 add-t21 c = search needs
 
--- src/dots.rt:114:30
 enum-told-4 : tie.Need-enum-told-4
 enum-told-4 c = search needs
 
--- src/dots.rt:114:30
 mul-t23 : tie.Need-mul-t23
 mul-t23 c = search needs
 
--- src/dots.rt:114:22
 add-t24 : tie.Need-add-t24
 add-t24 c = search needs
 
--- src/dots.rt:114:22
 add-t26 : tie.Need-add-t26
 add-t26 c = search needs
 
--- src/dots.rt:118:22
 enum-told-5 : tie.Need-enum-told-5
 enum-told-5 c = search needs
 
--- src/dots.rt:118:22
 add-t28 : tie.Need-add-t28
 add-t28 c = search needs
 
--- src/dots.rt:122:22
 enum-told-6 : tie.Need-enum-told-6
 enum-told-6 c = search needs
 
--- src/dots.rt:122:22
 add-t29 : tie.Need-add-t29
 add-t29 c = search needs
 
--- src/dots.rt:126:30
 enum-told-7 : tie.Need-enum-told-7
 enum-told-7 c = search needs
 
--- src/dots.rt:126:30
 mul-t30 : tie.Need-mul-t30
 mul-t30 c = search needs
 
--- src/dots.rt:126:22
 add-t31 : tie.Need-add-t31
 add-t31 c = search needs
 
--- src/dots.rt:95:1
 returns : tie.Need-returns
 unfolding placeAs addressOf shiftOf
 returns c = simp (c .enum-told .given .1)
 
--- src/dots.rt:95:1
 returns-2 : tie.Need-returns-2
 unfolding placeAs addressOf shiftOf
 returns-2 c = simp (c .enum-told2 .given .1)
 
--- src/dots.rt:95:1
 returns-3 : tie.Need-returns-3
 unfolding placeAs addressOf shiftOf
 returns-3 c = simp (c .enum-told3 .given .1)
 
--- src/dots.rt:95:1
 returns-4 : tie.Need-returns-4
 unfolding placeAs addressOf shiftOf
 returns-4 c = simp (c .enum-told4 .given .1)
 
--- src/dots.rt:95:1
 returns-5 : tie.Need-returns-5
 unfolding placeAs addressOf shiftOf
 returns-5 c = simp (c .enum-told5 .given .1)
 
--- src/dots.rt:95:1
 returns-6 : tie.Need-returns-6
 unfolding placeAs addressOf shiftOf
 returns-6 c = simp (c .enum-told6 .given .1)
 
--- src/dots.rt:95:1
 returns-7 : tie.Need-returns-7
 unfolding placeAs addressOf shiftOf
 returns-7 c = simp (c .enum-told7 .given .1)

@@ -1,3 +1,5 @@
+-- `map::dots::place_of` meets its contract.
+-- Assumes nothing.
 use mathlib.Core.Path.{sym, _∙_}
 use native.Mathlib.Omega.{arith}
 use Rattle.map.specs.Map.{placeOf}
@@ -5,25 +7,17 @@ use Rattle.map.specs.MapLaws.{dot-line, dot-sink, lines-most}
 use borrow.Author.Needs.{needs}
 use Rattle.map.proofs.dots.place_of.Statement.{statement}
 use Rattle.map.proofs.dots.place_of.Tie as tie
-use Rattle.map.proofs.dots.place_of.Reads as reads
-use Rattle.map.proofs.dots.place_of.Lts as lts
-use Rattle.map.proofs.dots.is_dot.Reads as is-dot-reads
-use Rattle.map.proofs.dots.place_as.Reads as place-as-reads
 
--- src/dots.rt:136:8
 is-dot-requires : tie.Need-is-dot-requires
 is-dot-requires c κs = search needs
 
--- src/dots.rt:137:9
 place-as-requires : tie.Need-place-as-requires
 place-as-requires c κs = (omega (arith, dot-line _ _ _ (sym (c .before .is-dot .ensures) ∙ c .if1 .taken), lines-most (c .before .before .args .member)), dot-sink _ _ _ (sym (c .before .is-dot .ensures) ∙ c .if1 .taken))
 
--- src/dots.rt:133:1
 returns : tie.Need-returns
 unfolding placeOf
 returns c = c .place-as .ensures ∙ simp (sym (c .before .before .is-dot .ensures) ∙ c .before .if1 .taken)
 
--- src/dots.rt:133:1
 returns-2 : tie.Need-returns-2
 unfolding placeOf
 returns-2 c = simp (sym (c .before .is-dot .ensures) ∙ c .if1 .left)

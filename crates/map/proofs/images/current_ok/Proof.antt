@@ -1,22 +1,17 @@
-use mathlib.Core.Path.{_≡_, sym, _∙_}
-use native.Mathlib.Omega.{arith}
+-- `map::images::current_ok` meets its contract.
+-- Assumes nothing.
+use mathlib.Core.Path.{sym, _∙_}
 use Rattle.map.proofs.Steps.{current-reset, current-other}
 use borrow.Author.Needs.{needs}
 use Rattle.map.proofs.images.current_ok.Statement.{statement}
 use Rattle.map.proofs.images.current_ok.Tie as tie
-use Rattle.map.proofs.images.current_ok.Reads as reads
-use Rattle.map.proofs.images.current_ok.Lts as lts
-use Rattle.map.proofs.dots.number_in.Reads as number-in-reads
 
--- src/images.rt:138:9
 returns : tie.Need-returns
 returns c = sym (current-reset _ _ _ _ (c .before .pre .0) (c .before .pre .2) (c .before .pre .3) (c .if1 .taken))
 
--- src/images.rt:140:5
 number-in-requires : tie.Need-number-in-requires
 number-in-requires c κs = search needs
 
--- src/images.rt:133:1
 returns-2 : tie.Need-returns-2
 returns-2 c = c .number-in .ensures ∙ sym (current-other _ _ _ _ _ (c .before .before .pre .0) (c .before .before .pre .1) (c .before .before .pre .2) (c .before .before .pre .3) (search needs) (c .before .if1 .left))
 

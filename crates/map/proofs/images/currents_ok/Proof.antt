@@ -1,24 +1,17 @@
+-- `map::images::currents_ok` meets its contract.
+-- Assumes nothing.
 use Rattle.map.proofs.Steps.{byte-more, byte-fails, currents-free}
-use mathlib.Core.Path.{_≡_, sym, _∙_, ap}
+use mathlib.Core.Path.{_≡_, sym}
 use mathlib.Core.Bool.{true}
-use Prim.Native.Nat.{_+_, _-_, _*_, _≤_}
+use Prim.Native.Nat.{_-_, _*_, _≤_}
 use native.Mathlib.Omega.{arith}
-use borrow.Author.Tests.{not-true, not-false}
 use borrow.Author.Needs.{needs}
-use lib.ListN.{length, getD}
 use Rattle.map.specs.Lists.{allFrom}
-use Rattle.map.specs.ListLaws.{all-none, all-more, all-fails}
+use Rattle.map.specs.ListLaws.{all-none}
 use Rattle.map.specs.Map.{linesOf}
-use Rattle.map.specs.MapLaws.{lines-most}
 use Rattle.map.specs.Images.{okAt}
-use Rattle.map.proofs.Steps.{currents-free}
 use Rattle.map.proofs.images.currents_ok.Statement.{statement}
 use Rattle.map.proofs.images.currents_ok.Tie as tie
-use Rattle.map.proofs.images.currents_ok.Reads as reads
-use Rattle.map.proofs.images.currents_ok.Lts as lts
-use Rattle.map.proofs.images.current_ok.Reads as current-ok-reads
-use Rattle.map.proofs.members.columns.Reads as columns-reads
-use Rattle.map.proofs.members.lines.Reads as lines-reads
 
 abbrev Inv-loop : tie.InvT-loop
 Inv-loop member image n columns d₀ d = (d ≤ 18 * n) × (allFrom (okAt member image) 0x100 d ≡ true)
@@ -26,56 +19,43 @@ Inv-loop member image n columns d₀ d = (d ≤ 18 * n) × (allFrom (okAt member
 abbrev μ-loop : tie.MeasureT-loop
 μ-loop member image n columns d₀ d = 18 * n - d
 
--- src/images.rt:147:9
 lines-requires : tie.Need-lines-requires Inv-loop μ-loop
 lines-requires c κs = search needs
 
--- src/images.rt:148:9
 columns-requires : tie.Need-columns-requires Inv-loop μ-loop
 columns-requires c κs = search needs
 
--- src/images.rt:150:9
 returns : tie.Need-returns Inv-loop μ-loop
 returns c = sym (currents-free _ _ _ (c .before .before .before .before .pre .0) (c .before .columns .ensures) (c .if1 .taken) (λ k. omega (arith, c .before .before .before .shared-slice-known .given k)))
 
--- src/images.rt:153:5
 loop-holds : tie.Need-loop-holds Inv-loop μ-loop
 loop-holds c = (omega arith, all-none _ _)
 
--- src/images.rt:153:15
 mul-loop : tie.Need-mul-loop Inv-loop μ-loop
 mul-loop c = omega arith
 
--- src/images.rt:154:53
 add-current-ok : tie.Need-add-current-ok Inv-loop μ-loop
 add-current-ok c = omega arith
 
--- src/images.rt:154:47
 shared-slice-read-current-ok : tie.Need-shared-slice-read-current-ok Inv-loop μ-loop
 shared-slice-read-current-ok c = omega arith
 
--- src/images.rt:154:13
 current-ok-requires : tie.Need-current-ok-requires Inv-loop μ-loop
 current-ok-requires c κs = (c .before .before .before .before .before .lines .ensures .0, c .before .before .before .before .columns .ensures, omega arith, omega arith)
 
--- src/images.rt:155:13
 returns-2 : tie.Need-returns-2 Inv-loop μ-loop
 returns-2 c =
     byte-fails _ _ _ _ (c .before .before .before .before .loop .d) _ (omega (arith, c .before .before .before .before .before .before .before .lines .ensures .0)) (c .before .current-ok .ensures) (c .if2 .taken)
 
--- src/images.rt:157:9
 add-d : tie.Need-add-d Inv-loop μ-loop
 add-d c = omega arith
 
--- src/images.rt:153:5
 loop-less : tie.Need-loop-less Inv-loop μ-loop
 loop-less c = omega arith
 
--- src/images.rt:153:5
 loop-again : tie.Need-loop-again Inv-loop μ-loop
 loop-again c = (omega arith, byte-more _ _ _ _ _ (c .before .current-ok .ensures) (c .if2 .left) (c .before .before .before .before .loop .inv .1))
 
--- src/images.rt:143:1
 returns-3 : tie.Need-returns-3 Inv-loop μ-loop
 returns-3 c =
     let e : c .before .loop .d ≡ 18 * linesOf (c .before .before .before .before .before .before .args .member) = omega (arith, c .before .before .before .before .lines .ensures .0) in

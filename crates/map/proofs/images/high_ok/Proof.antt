@@ -1,4 +1,6 @@
-use mathlib.Core.Path.{_≡_, sym, _∙_}
+-- `map::images::high_ok` meets its contract.
+-- Assumes nothing.
+use mathlib.Core.Path.{sym, _∙_}
 use Prim.Native.Nat.{_+_, _-_, _*_}
 use native.Mathlib.Omega.{arith}
 use borrow.Author.Tests.{not-true, not-false}
@@ -9,86 +11,61 @@ use Rattle.map.proofs.Whole.{zero-commands, zero-gap, zero-levels, high
 use borrow.Author.Needs.{needs}
 use Rattle.map.proofs.images.high_ok.Statement.{statement}
 use Rattle.map.proofs.images.high_ok.Tie as tie
-use Rattle.map.proofs.images.high_ok.Reads as reads
-use Rattle.map.proofs.images.high_ok.Lts as lts
-use Rattle.map.proofs.images.currents_ok.Reads as currents-ok-reads
-use Rattle.map.proofs.images.levels_ok.Reads as levels-ok-reads
-use Rattle.map.proofs.images.zeros.Reads as zeros-reads
-use Rattle.map.proofs.members.lines.Reads as lines-reads
 
--- src/images.rt:213:9
 lines-requires : tie.Need-lines-requires
 lines-requires c κs = search needs
 
--- src/images.rt:214:9
 zeros-requires : tie.Need-zeros-requires
 zeros-requires c κs = search needs
 
--- src/images.rt:215:9
 returns : tie.Need-returns
 returns c = sym (part-fails _ _ _ 0x0A7 89 (omega arith) (omega arith) (zero-commands _ _ _ (c .before .zeros .ensures) ∙ not-true _ (c .if1 .taken)))
 
--- src/images.rt:217:9
 currents-ok-requires : tie.Need-currents-ok-requires
 currents-ok-requires c κs = search needs
 
--- src/images.rt:218:9
 returns-2 : tie.Need-returns-2
 returns-2 c = sym (part-fails _ _ _ 0x100 (18 * linesOf (c .before .before .before .before .before .before .args .member)) (omega arith) (omega (arith, lines-most (c .before .before .before .before .before .before .args .member))) (sym (c .before .currents-ok .ensures) ∙ not-true _ (c .if2 .taken)))
 
--- src/images.rt:220:30
 mul-zeros : tie.Need-mul-zeros
 mul-zeros c = search needs
 
--- src/images.rt:220:22
 add-zeros : tie.Need-add-zeros
 add-zeros c = search needs
 
--- src/images.rt:220:44
 mul-zeros-2 : tie.Need-mul-zeros-2
 mul-zeros-2 c = search needs
 
--- src/images.rt:220:38
 sub-zeros : tie.Need-sub-zeros
 sub-zeros c = search needs
 
--- src/images.rt:220:9
 zeros-requires-2 : tie.Need-zeros-requires-2
 zeros-requires-2 c κs = search needs
 
--- src/images.rt:221:9
 returns-3 : tie.Need-returns-3
 returns-3 c = sym (part-fails _ _ _ (0x100 + 18 * c .before .before .before .before .before .before .lines .result) (256 - 18 * c .before .before .before .before .before .before .lines .result) (omega arith) (omega arith) (zero-gap _ _ _ _ (c .before .before .before .before .before .before .lines .ensures .0) (c .before .zeros2 .ensures) ∙ not-true _ (c .if3 .taken)))
 
--- src/images.rt:223:9
 levels-ok-requires : tie.Need-levels-ok-requires
 levels-ok-requires c κs = search needs
 
--- src/images.rt:224:9
 returns-4 : tie.Need-returns-4
 returns-4 c = sym (part-fails _ _ _ 0x200 (36 * linesOf (c .before .before .before .before .before .before .before .before .before .before .args .member)) (omega arith) (omega (arith, lines-most (c .before .before .before .before .before .before .before .before .before .before .args .member))) (sym (c .before .levels-ok .ensures) ∙ not-true _ (c .if4 .taken)))
 
--- src/images.rt:226:26
 mul-zeros-3 : tie.Need-mul-zeros-3
 mul-zeros-3 c = search needs
 
--- src/images.rt:226:18
 add-zeros-2 : tie.Need-add-zeros-2
 add-zeros-2 c = search needs
 
--- src/images.rt:226:40
 mul-zeros-4 : tie.Need-mul-zeros-4
 mul-zeros-4 c = search needs
 
--- src/images.rt:226:34
 sub-zeros-2 : tie.Need-sub-zeros-2
 sub-zeros-2 c = search needs
 
--- src/images.rt:226:5
 zeros-requires-3 : tie.Need-zeros-requires-3
 zeros-requires-3 c κs = search needs
 
--- src/images.rt:209:1
 returns-5 : tie.Need-returns-5
 returns-5 c =
     high-whole _ _ _ _ (c .before .before .before .before .before .before .before .before .before .lines .ensures .0) (zero-commands _ _ _ (c .before .before .before .before .before .before .before .before .zeros .ensures) ∙ not-false _ (c .before .before .before .before .before .before .before .if1 .left))

@@ -1,4 +1,6 @@
-use mathlib.Core.Path.{_≡_, sym, _∙_}
+-- `map::images::image_ok` meets its contract.
+-- Assumes nothing.
+use mathlib.Core.Path.{sym, _∙_}
 use native.Mathlib.Omega.{arith}
 use borrow.Author.Tests.{not-true, not-false}
 use Rattle.map.specs.ImageLaws.{registers-ok}
@@ -6,24 +8,16 @@ use Rattle.map.proofs.Whole.{with-faults, no-registers}
 use borrow.Author.Needs.{needs}
 use Rattle.map.proofs.images.image_ok.Statement.{statement}
 use Rattle.map.proofs.images.image_ok.Tie as tie
-use Rattle.map.proofs.images.image_ok.Reads as reads
-use Rattle.map.proofs.images.image_ok.Lts as lts
-use Rattle.map.proofs.images.registers_ok.Reads as registers-ok-reads
-use Rattle.map.proofs.images.zeros.Reads as zeros-reads
 
--- src/images.rt:249:9
 registers-ok-requires : tie.Need-registers-ok-requires
 registers-ok-requires c κs = search needs
 
--- src/images.rt:250:9
 returns : tie.Need-returns
 returns c = sym (no-registers _ _ (sym (c .before .registers-ok .ensures) ∙ not-true _ (c .if1 .taken)))
 
--- src/images.rt:252:5
 zeros-requires : tie.Need-zeros-requires
 zeros-requires c κs = (registers-ok _ _ (sym (c .before .registers-ok .ensures) ∙ not-false _ (c .if1 .left)) .size, omega arith)
 
--- src/images.rt:246:1
 returns-2 : tie.Need-returns-2
 returns-2 c = with-faults _ _ _ (sym (c .before .before .registers-ok .ensures) ∙ not-false _ (c .before .if1 .left)) (c .zeros .ensures)
 

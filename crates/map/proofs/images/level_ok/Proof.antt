@@ -1,22 +1,17 @@
-use mathlib.Core.Path.{_≡_, sym, _∙_}
-use native.Mathlib.Omega.{arith}
+-- `map::images::level_ok` meets its contract.
+-- Assumes nothing.
+use mathlib.Core.Path.{sym}
 use Rattle.map.proofs.Steps.{level-zero, level-other}
 use borrow.Author.Needs.{needs}
 use Rattle.map.proofs.images.level_ok.Statement.{statement}
 use Rattle.map.proofs.images.level_ok.Tie as tie
-use Rattle.map.proofs.images.level_ok.Reads as reads
-use Rattle.map.proofs.images.level_ok.Lts as lts
-use Rattle.map.proofs.registers.pwm_reserved.Reads as pwm-reserved-reads
 
--- src/images.rt:168:9
 returns : tie.Need-returns
 returns c = sym (level-zero _ _ _ (c .before .pre .2) (c .if1 .taken))
 
--- src/images.rt:170:5
 pwm-reserved-requires : tie.Need-pwm-reserved-requires
 pwm-reserved-requires c κs = search needs
 
--- src/images.rt:163:1
 returns-2 : tie.Need-returns-2
 returns-2 c = sym (level-other _ _ _ _ _ _ (c .before .before .pre .0) (c .before .before .pre .1) (c .before .before .pre .2) (search needs) (c .before .if1 .left) (c .pwm-reserved .ensures))
 

@@ -1,24 +1,17 @@
+-- `map::images::levels_ok` meets its contract.
+-- Assumes nothing.
 use Rattle.map.proofs.Steps.{byte-more, byte-fails, levels-free}
-use mathlib.Core.Path.{_≡_, sym, _∙_, ap}
+use mathlib.Core.Path.{_≡_, sym}
 use mathlib.Core.Bool.{true}
-use Prim.Native.Nat.{_+_, _-_, _*_, _≤_}
+use Prim.Native.Nat.{_-_, _*_, _≤_}
 use native.Mathlib.Omega.{arith}
-use borrow.Author.Tests.{not-true, not-false}
 use borrow.Author.Needs.{needs}
-use lib.ListN.{length, getD}
 use Rattle.map.specs.Lists.{allFrom}
-use Rattle.map.specs.ListLaws.{all-none, all-more, all-fails}
+use Rattle.map.specs.ListLaws.{all-none}
 use Rattle.map.specs.Map.{linesOf}
-use Rattle.map.specs.MapLaws.{lines-most}
 use Rattle.map.specs.Images.{okAt}
-use Rattle.map.proofs.Steps.{levels-free}
 use Rattle.map.proofs.images.levels_ok.Statement.{statement}
 use Rattle.map.proofs.images.levels_ok.Tie as tie
-use Rattle.map.proofs.images.levels_ok.Reads as reads
-use Rattle.map.proofs.images.levels_ok.Lts as lts
-use Rattle.map.proofs.images.level_ok.Reads as level-ok-reads
-use Rattle.map.proofs.members.columns.Reads as columns-reads
-use Rattle.map.proofs.members.lines.Reads as lines-reads
 
 abbrev Inv-loop : tie.InvT-loop
 Inv-loop member image n columns x₀ x = (x ≤ 36 * n) × (allFrom (okAt member image) 0x200 x ≡ true)
@@ -26,56 +19,43 @@ Inv-loop member image n columns x₀ x = (x ≤ 36 * n) × (allFrom (okAt member
 abbrev μ-loop : tie.MeasureT-loop
 μ-loop member image n columns x₀ x = 36 * n - x
 
--- src/images.rt:177:9
 lines-requires : tie.Need-lines-requires Inv-loop μ-loop
 lines-requires c κs = search needs
 
--- src/images.rt:178:9
 columns-requires : tie.Need-columns-requires Inv-loop μ-loop
 columns-requires c κs = search needs
 
--- src/images.rt:180:9
 returns : tie.Need-returns Inv-loop μ-loop
 returns c = sym (levels-free _ _ _ (c .before .before .before .before .pre .0) (c .before .columns .ensures) (c .if1 .taken) (λ k. omega (arith, c .before .before .before .shared-slice-known .given k)))
 
--- src/images.rt:183:5
 loop-holds : tie.Need-loop-holds Inv-loop μ-loop
 loop-holds c = (omega arith, all-none _ _)
 
--- src/images.rt:183:15
 mul-loop : tie.Need-mul-loop Inv-loop μ-loop
 mul-loop c = omega arith
 
--- src/images.rt:184:51
 add-level-ok : tie.Need-add-level-ok Inv-loop μ-loop
 add-level-ok c = omega arith
 
--- src/images.rt:184:45
 shared-slice-read-level-ok : tie.Need-shared-slice-read-level-ok Inv-loop μ-loop
 shared-slice-read-level-ok c = omega arith
 
--- src/images.rt:184:13
 level-ok-requires : tie.Need-level-ok-requires Inv-loop μ-loop
 level-ok-requires c κs = (c .before .before .before .before .before .lines .ensures .0, c .before .before .before .before .columns .ensures, omega arith)
 
--- src/images.rt:185:13
 returns-2 : tie.Need-returns-2 Inv-loop μ-loop
 returns-2 c =
     byte-fails _ _ _ _ (c .before .before .before .before .loop .x) _ (omega (arith, c .before .before .before .before .before .before .before .lines .ensures .0)) (c .before .level-ok .ensures) (c .if2 .taken)
 
--- src/images.rt:187:9
 add-x : tie.Need-add-x Inv-loop μ-loop
 add-x c = omega arith
 
--- src/images.rt:183:5
 loop-less : tie.Need-loop-less Inv-loop μ-loop
 loop-less c = omega arith
 
--- src/images.rt:183:5
 loop-again : tie.Need-loop-again Inv-loop μ-loop
 loop-again c = (omega arith, byte-more _ _ _ _ _ (c .before .level-ok .ensures) (c .if2 .left) (c .before .before .before .before .loop .inv .1))
 
--- src/images.rt:173:1
 returns-3 : tie.Need-returns-3 Inv-loop μ-loop
 returns-3 c =
     let e : c .before .loop .x ≡ 36 * linesOf (c .before .before .before .before .before .before .args .member) = omega (arith, c .before .before .before .before .lines .ensures .0) in

@@ -1,4 +1,6 @@
-use mathlib.Core.Path.{_≡_, refl, sym, _∙_, ap}
+-- `map::images::low_ok` meets its contract.
+-- Assumes nothing.
+use mathlib.Core.Path.{sym, _∙_}
 use native.Mathlib.Omega.{arith}
 use borrow.Author.Tests.{not-true, not-false}
 use lib.ListN.{length}
@@ -8,51 +10,34 @@ use Rattle.map.proofs.Whole.{first-row, low-whole}
 use borrow.Author.Needs.{needs}
 use Rattle.map.proofs.images.low_ok.Statement.{statement}
 use Rattle.map.proofs.images.low_ok.Tie as tie
-use Rattle.map.proofs.images.low_ok.Reads as reads
-use Rattle.map.proofs.images.low_ok.Lts as lts
-use Rattle.map.proofs.images.groups_ok.Reads as groups-ok-reads
-use Rattle.map.proofs.images.row_ok.Reads as row-ok-reads
-use Rattle.map.proofs.images.switches_ok.Reads as switches-ok-reads
-use Rattle.map.proofs.members.first_masks.Reads as first-masks-reads
-use Rattle.map.proofs.members.first_resets.Reads as first-resets-reads
 
--- src/images.rt:197:17
 first-masks-requires : tie.Need-first-masks-requires
 first-masks-requires c κs = search needs
 
--- src/images.rt:198:18
 first-resets-requires : tie.Need-first-resets-requires
 first-resets-requires c κs = search needs
 
--- src/images.rt:199:34
 slice-aggregate-row-ok : tie.Need-slice-aggregate-row-ok
 slice-aggregate-row-ok c = search needs
 
--- src/images.rt:199:42
 slice-aggregate-row-ok-2 : tie.Need-slice-aggregate-row-ok-2
 slice-aggregate-row-ok-2 c = search needs
 
--- src/images.rt:199:9
 row-ok-requires : tie.Need-row-ok-requires
 row-ok-requires c κs = first-row _ _ _ (c .before .before .before .before .before .args .image .now) (c .before .before .before .before .before .pre .0) (c .before .before .before .before .before .pre .1) (c .before .before .before .first-masks .ensures) (c .before .before .first-resets .ensures)
 
--- src/images.rt:200:9
 returns : tie.Need-returns
 returns c = sym (part-fails _ 0 100 0 (length (c .before .before .before .before .before .first-masks .result)) (omega arith) (omega (arith, masks-wide _ _ (c .before .before .before .before .before .first-masks .ensures))) (sym (c .before .row-ok .ensures) ∙ not-true _ (c .if1 .taken)))
 
--- src/images.rt:202:9
 groups-ok-requires : tie.Need-groups-ok-requires
 groups-ok-requires c κs = search needs
 
--- src/images.rt:203:9
 returns-2 : tie.Need-returns-2
 returns-2 c = sym (part-fails _ 0 100 0x00C 55 (omega arith) (omega arith) (sym (c .before .groups-ok .ensures) ∙ not-true _ (c .if2 .taken)))
 
--- src/images.rt:205:5
 switches-ok-requires : tie.Need-switches-ok-requires
 switches-ok-requires c κs = search needs
 
--- src/images.rt:193:1
 returns-3 : tie.Need-returns-3
 returns-3 c =
     low-whole _ _ _ _ (masks-wide _ _ (c .before .before .before .before .before .before .before .before .first-masks .ensures)) (sym (c .before .before .before .before .row-ok .ensures) ∙ not-false _ (c .before .before .before .if1 .left))

@@ -1,5 +1,7 @@
-use mathlib.Core.Path.{_≡_, sym, _∙_, ap, refl}
-use Prim.Native.Nat.{_+_, _-_, _≤_}
+-- `map::images::put_currents` meets its contract.
+-- Assumes nothing.
+use mathlib.Core.Path.{_≡_, sym}
+use Prim.Native.Nat.{_-_, _≤_}
 use native.Mathlib.Omega.{arith}
 use borrow.Author.Needs.{needs}
 use lib.ListN.{length, length-set}
@@ -9,10 +11,6 @@ use Rattle.map.specs.Map.{resetOf}
 use Rattle.map.proofs.Steps.{fill-current}
 use Rattle.map.proofs.images.put_currents.Statement.{statement}
 use Rattle.map.proofs.images.put_currents.Tie as tie
-use Rattle.map.proofs.images.put_currents.Reads as reads
-use Rattle.map.proofs.images.put_currents.Lts as lts
-use Rattle.map.proofs.members.lines.Reads as lines-reads
-use Rattle.map.proofs.registers.current_reset.Reads as current-reset-reads
 
 abbrev Inv-loop : tie.InvT-loop
 Inv-loop member image₀ n d₀ image d = (d ≤ 198) × (length image ≡ 908) × (image ≡ filled (resetOf member) 0x100 d image₀)
@@ -20,39 +18,30 @@ Inv-loop member image₀ n d₀ image d = (d ≤ 198) × (length image ≡ 908) 
 abbrev μ-loop : tie.MeasureT-loop
 μ-loop member image₀ n d₀ image d = 198 - d
 
--- src/images.rt:286:9
 lines-requires : tie.Need-lines-requires Inv-loop μ-loop
 lines-requires c κs = search needs
 
--- src/images.rt:288:5
 loop-holds : tie.Need-loop-holds Inv-loop μ-loop
 loop-holds c = (omega arith, c .before .pre .1, sym (filled-none _ _ _))
 
--- src/images.rt:289:28
 current-reset-requires : tie.Need-current-reset-requires Inv-loop μ-loop
 current-reset-requires c κs = search needs
 
--- src/images.rt:289:15
 add-image : tie.Need-add-image Inv-loop μ-loop
 add-image c = omega arith
 
--- src/images.rt:289:9
 element-write-image : tie.Need-element-write-image Inv-loop μ-loop
 element-write-image c = omega arith
 
--- src/images.rt:290:9
 add-d : tie.Need-add-d Inv-loop μ-loop
 add-d c = omega arith
 
--- src/images.rt:288:5
 loop-less : tie.Need-loop-less Inv-loop μ-loop
 loop-less c = omega arith
 
--- src/images.rt:288:5
 loop-again : tie.Need-loop-again Inv-loop μ-loop
 loop-again c = (omega arith, simp length-set (c .before .before .loop .inv .1), fill-current _ _ _ _ _ _ (c .before .before .before .lines .ensures .0) (omega arith) (c .current-reset .ensures) (c .before .before .loop .inv .2))
 
--- src/images.rt:282:1
 returns : tie.Need-returns Inv-loop μ-loop
 returns c = let e : c .before .loop .d ≡ 198 = omega arith in rw e at (c .before .loop .inv .2)
 

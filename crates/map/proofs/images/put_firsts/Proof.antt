@@ -1,5 +1,7 @@
-use mathlib.Core.Path.{_≡_, sym, _∙_, ap, refl}
-use Prim.Native.Nat.{_+_, _-_, _≤_}
+-- `map::images::put_firsts` meets its contract.
+-- Assumes nothing.
+use mathlib.Core.Path.{_≡_, sym}
+use Prim.Native.Nat.{_-_, _≤_}
 use native.Mathlib.Omega.{arith}
 use lib.ListN.{length, length-set}
 use Rattle.map.specs.Lists.{filled}
@@ -9,9 +11,6 @@ use Rattle.map.proofs.Steps.{fill-first}
 use borrow.Author.Needs.{needs}
 use Rattle.map.proofs.images.put_firsts.Statement.{statement}
 use Rattle.map.proofs.images.put_firsts.Tie as tie
-use Rattle.map.proofs.images.put_firsts.Reads as reads
-use Rattle.map.proofs.images.put_firsts.Lts as lts
-use Rattle.map.proofs.members.first_resets.Reads as first-resets-reads
 
 abbrev Inv-loop : tie.InvT-loop
 Inv-loop member image₀ resets a₀ image a = (a ≤ 12) × (length image ≡ 908) × (image ≡ filled (resetOf member) 0 a image₀)
@@ -19,35 +18,27 @@ Inv-loop member image₀ resets a₀ image a = (a ≤ 12) × (length image ≡ 9
 abbrev μ-loop : tie.MeasureT-loop
 μ-loop member image₀ resets a₀ image a = 12 - a
 
--- src/images.rt:262:18
 first-resets-requires : tie.Need-first-resets-requires Inv-loop μ-loop
 first-resets-requires c κs = search needs
 
--- src/images.rt:264:5
 loop-holds : tie.Need-loop-holds Inv-loop μ-loop
 loop-holds c = (omega arith, c .before .pre .1, sym (filled-none _ _ _))
 
--- src/images.rt:265:20
 array-read-image : tie.Need-array-read-image Inv-loop μ-loop
 array-read-image c = omega arith
 
--- src/images.rt:265:9
 element-write-image : tie.Need-element-write-image Inv-loop μ-loop
 element-write-image c = omega arith
 
--- src/images.rt:266:9
 add-a : tie.Need-add-a Inv-loop μ-loop
 add-a c = omega arith
 
--- src/images.rt:264:5
 loop-less : tie.Need-loop-less Inv-loop μ-loop
 loop-less c = omega arith
 
--- src/images.rt:264:5
 loop-again : tie.Need-loop-again Inv-loop μ-loop
 loop-again c = (omega arith, simp length-set (c .before .loop .inv .1), fill-first _ _ _ _ _ (c .before .before .before .pre .0) (omega arith) (c .before .before .first-resets .ensures) (c .before .loop .inv .2))
 
--- src/images.rt:258:1
 returns : tie.Need-returns Inv-loop μ-loop
 returns c = let e : c .before .loop .a ≡ 12 = omega arith in rw e at (c .before .loop .inv .2)
 

@@ -1,5 +1,7 @@
-use mathlib.Core.Path.{_≡_, sym, _∙_, ap, refl}
-use Prim.Native.Nat.{_+_, _-_, _≤_}
+-- `map::images::put_switches` meets its contract.
+-- Assumes nothing.
+use mathlib.Core.Path.{_≡_, sym}
+use Prim.Native.Nat.{_-_, _≤_}
 use native.Mathlib.Omega.{arith}
 use borrow.Author.Needs.{needs}
 use lib.ListN.{length, length-set}
@@ -9,10 +11,6 @@ use Rattle.map.specs.Map.{resetOf}
 use Rattle.map.proofs.Steps.{fill-switch}
 use Rattle.map.proofs.images.put_switches.Statement.{statement}
 use Rattle.map.proofs.images.put_switches.Tie as tie
-use Rattle.map.proofs.images.put_switches.Reads as reads
-use Rattle.map.proofs.images.put_switches.Lts as lts
-use Rattle.map.proofs.members.switch_bytes.Reads as switch-bytes-reads
-use Rattle.map.proofs.registers.switch_reset.Reads as switch-reset-reads
 
 abbrev Inv-loop : tie.InvT-loop
 Inv-loop member image₀ listed x₀ image x = (x ≤ 33) × (length image ≡ 908) × (image ≡ filled (resetOf member) 0x043 x image₀)
@@ -20,39 +18,30 @@ Inv-loop member image₀ listed x₀ image x = (x ≤ 33) × (length image ≡ 9
 abbrev μ-loop : tie.MeasureT-loop
 μ-loop member image₀ listed x₀ image x = 33 - x
 
--- src/images.rt:274:9
 switch-bytes-requires : tie.Need-switch-bytes-requires Inv-loop μ-loop
 switch-bytes-requires c κs = search needs
 
--- src/images.rt:276:5
 loop-holds : tie.Need-loop-holds Inv-loop μ-loop
 loop-holds c = (omega arith, c .before .pre .1, sym (filled-none _ _ _))
 
--- src/images.rt:277:28
 switch-reset-requires : tie.Need-switch-reset-requires Inv-loop μ-loop
 switch-reset-requires c κs = search needs
 
--- src/images.rt:277:15
 add-image : tie.Need-add-image Inv-loop μ-loop
 add-image c = omega arith
 
--- src/images.rt:277:9
 element-write-image : tie.Need-element-write-image Inv-loop μ-loop
 element-write-image c = omega arith
 
--- src/images.rt:278:9
 add-x : tie.Need-add-x Inv-loop μ-loop
 add-x c = omega arith
 
--- src/images.rt:276:5
 loop-less : tie.Need-loop-less Inv-loop μ-loop
 loop-less c = omega arith
 
--- src/images.rt:276:5
 loop-again : tie.Need-loop-again Inv-loop μ-loop
 loop-again c = (omega arith, simp length-set (c .before .before .loop .inv .1), fill-switch _ _ _ _ _ _ (c .before .before .before .switch-bytes .ensures) (omega arith) (c .switch-reset .ensures) (c .before .before .loop .inv .2))
 
--- src/images.rt:270:1
 returns : tie.Need-returns Inv-loop μ-loop
 returns c = let e : c .before .loop .x ≡ 33 = omega arith in rw e at (c .before .loop .inv .2)
 

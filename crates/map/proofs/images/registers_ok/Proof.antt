@@ -1,37 +1,28 @@
-use mathlib.Core.Path.{_≡_, sym, _∙_}
+-- `map::images::registers_ok` meets its contract.
+-- Assumes nothing.
+use mathlib.Core.Path.{sym, _∙_}
 use native.Mathlib.Omega.{arith}
-use borrow.Author.Tests.{not-true, not-false, le-ltb, lt-ltb, ne-eqb, eq-eqb}
-use Rattle.map.specs.Images.{registersOk}
+use borrow.Author.Tests.{not-true, not-false}
 use Rattle.map.proofs.Whole.{member-refused, size-refused, low-refused, high-decides}
 use borrow.Author.Needs.{needs}
 use Rattle.map.proofs.images.registers_ok.Statement.{statement}
 use Rattle.map.proofs.images.registers_ok.Tie as tie
-use Rattle.map.proofs.images.registers_ok.Reads as reads
-use Rattle.map.proofs.images.registers_ok.Lts as lts
-use Rattle.map.proofs.images.high_ok.Reads as high-ok-reads
-use Rattle.map.proofs.images.low_ok.Reads as low-ok-reads
 
--- src/images.rt:234:9
 returns : tie.Need-returns
 returns c = sym (member-refused _ _ (c .if1 .taken))
 
--- src/images.rt:237:9
 returns-2 : tie.Need-returns-2
 returns-2 c = sym (size-refused _ _ (c .if2 .taken))
 
--- src/images.rt:239:9
 low-ok-requires : tie.Need-low-ok-requires
 low-ok-requires c κs = search needs
 
--- src/images.rt:240:9
 returns-3 : tie.Need-returns-3
 returns-3 c = sym (low-refused _ _ (sym (c .before .low-ok .ensures) ∙ not-true _ (c .if3 .taken)))
 
--- src/images.rt:242:5
 high-ok-requires : tie.Need-high-ok-requires
 high-ok-requires c κs = search needs
 
--- src/images.rt:230:1
 returns-4 : tie.Need-returns-4
 returns-4 c =
     sym

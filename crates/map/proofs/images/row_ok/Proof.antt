@@ -1,3 +1,5 @@
+-- `map::images::row_ok` meets its contract.
+-- Assumes nothing.
 use mathlib.Core.Path.{_≡_, sym}
 use mathlib.Core.Bool.{true}
 use Prim.Native.Nat.{_+_, _-_, _≤_}
@@ -9,8 +11,6 @@ use Rattle.map.specs.Images.{okAt}
 use Rattle.map.proofs.Steps.{row-more, row-fails}
 use Rattle.map.proofs.images.row_ok.Statement.{statement}
 use Rattle.map.proofs.images.row_ok.Tie as tie
-use Rattle.map.proofs.images.row_ok.Reads as reads
-use Rattle.map.proofs.images.row_ok.Lts as lts
 
 abbrev Inv-loop : tie.InvT-loop
 Inv-loop member image at masks resets q₀ q = (q ≤ length masks) × (allFrom (okAt member image) at q ≡ true)
@@ -18,42 +18,33 @@ Inv-loop member image at masks resets q₀ q = (q ≤ length masks) × (allFrom 
 abbrev μ-loop : tie.MeasureT-loop
 μ-loop member image at masks resets q₀ q = length masks - q
 
--- src/images.rt:28:5
 loop-holds : tie.Need-loop-holds Inv-loop μ-loop
 loop-holds c = (omega arith, all-none _ _)
 
--- src/images.rt:29:20
 shared-slice-read-mask : tie.Need-shared-slice-read-mask Inv-loop μ-loop
 shared-slice-read-mask c = omega arith
 
--- src/images.rt:30:18
 add-if1 : tie.Need-add-if1 Inv-loop μ-loop
 add-if1 c = omega arith
 
--- src/images.rt:30:12
 shared-slice-read-if1 : tie.Need-shared-slice-read-if1 Inv-loop μ-loop
 shared-slice-read-if1 c = omega arith
 
--- src/images.rt:30:36
 shared-slice-read-if1-2 : tie.Need-shared-slice-read-if1-2 Inv-loop μ-loop
 shared-slice-read-if1-2 c = omega arith
 
--- src/images.rt:31:13
 returns : tie.Need-returns Inv-loop μ-loop
 returns c =
     sym
     (row-fails _ _ _ _ _ (c .before .before .before .before .before .loop .q) (c .before .before .before .before .before .before .pre .3) (omega arith)
     (omega (arith, c .before .before .shared-slice-known2 .given (c .before .before .before .before .before .before .args .at + c .before .before .before .before .before .loop .q))) (c .if1 .taken))
 
--- src/images.rt:33:9
 add-q : tie.Need-add-q Inv-loop μ-loop
 add-q c = omega arith
 
--- src/images.rt:28:5
 loop-less : tie.Need-loop-less Inv-loop μ-loop
 loop-less c = omega arith
 
--- src/images.rt:28:5
 loop-again : tie.Need-loop-again Inv-loop μ-loop
 loop-again c = (
   omega arith,
@@ -61,7 +52,6 @@ loop-again c = (
       (omega (arith, c .before .before .shared-slice-known2 .given (c .before .before .before .before .before .before .args .at + c .before .before .before .before .before .loop .q))) (c .if1 .left) (c .before .before .before .before .before .loop .inv .1),
 )
 
--- src/images.rt:23:1
 returns-2 : tie.Need-returns-2 Inv-loop μ-loop
 returns-2 c = let e : c .before .loop .q ≡ length (c .before .before .args .masks .now) = omega arith in sym (rw e at (c .before .loop .inv .1))
 

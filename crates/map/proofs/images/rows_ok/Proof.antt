@@ -1,18 +1,16 @@
+-- `map::images::rows_ok` meets its contract.
+-- Assumes nothing.
 use Rattle.map.proofs.Steps.{rows-none, rows-more, rows-fail, line-fits}
-use mathlib.Core.Path.{_≡_, sym, _∙_, ap}
+use mathlib.Core.Path.{_≡_, sym, _∙_}
 use mathlib.Core.Bool.{true}
-use Prim.Native.Nat.{ℕ, _+_, _-_, _*_, _≤_}
+use Prim.Native.Nat.{_-_, _*_, _≤_}
 use native.Mathlib.Omega.{arith}
 use borrow.Author.Tests.{not-true, not-false}
 use lib.ListN.{length}
 use Rattle.map.specs.Lists.{allFrom}
-use Rattle.map.specs.ListLaws.{all-none}
 use Rattle.map.specs.Images.{okAt}
 use Rattle.map.proofs.images.rows_ok.Statement.{statement}
 use Rattle.map.proofs.images.rows_ok.Tie as tie
-use Rattle.map.proofs.images.rows_ok.Reads as reads
-use Rattle.map.proofs.images.rows_ok.Lts as lts
-use Rattle.map.proofs.images.row_ok.Reads as row-ok-reads
 
 abbrev Inv-loop : tie.InvT-loop
 Inv-loop member image first n masks resets line₀ line = (line ≤ n) × (allFrom (okAt member image) first (length masks * line) ≡ true)
@@ -20,19 +18,15 @@ Inv-loop member image first n masks resets line₀ line = (line ≤ n) × (allFr
 abbrev μ-loop : tie.MeasureT-loop
 μ-loop member image first n masks resets line₀ line = n - line
 
--- src/images.rt:44:5
 loop-holds : tie.Need-loop-holds Inv-loop μ-loop
 loop-holds c = (omega arith, rows-none _ _ _)
 
--- src/images.rt:45:43
 mul-row-ok : tie.Need-mul-row-ok Inv-loop μ-loop
 mul-row-ok c = omega (arith, line-fits (length (c .before .before .before .before .before .args .masks .now)) (c .before .loop .line) (c .before .before .before .before .before .pre .2) (omega arith))
 
--- src/images.rt:45:35
 add-row-ok : tie.Need-add-row-ok Inv-loop μ-loop
 add-row-ok c = omega (arith, line-fits (length (c .before .before .before .before .before .args .masks .now)) (c .before .loop .line) (c .before .before .before .before .before .pre .2) (omega arith))
 
--- src/images.rt:45:13
 row-ok-requires : tie.Need-row-ok-requires Inv-loop μ-loop
 row-ok-requires c κs = (
   c .before .before .before .before .before .pre .0,
@@ -41,23 +35,18 @@ row-ok-requires c κs = (
   c .before .before .before .before .before .pre .5 (c .before .loop .line) (omega arith),
 )
 
--- src/images.rt:46:13
 returns : tie.Need-returns Inv-loop μ-loop
 returns c = sym (rows-fail _ _ _ _ (c .before .before .before .loop .line) (omega arith) (sym (c .before .row-ok .ensures) ∙ not-true _ (c .if1 .taken)))
 
--- src/images.rt:48:9
 add-line : tie.Need-add-line Inv-loop μ-loop
 add-line c = omega arith
 
--- src/images.rt:44:5
 loop-less : tie.Need-loop-less Inv-loop μ-loop
 loop-less c = omega arith
 
--- src/images.rt:44:5
 loop-again : tie.Need-loop-again Inv-loop μ-loop
 loop-again c = (omega arith, rows-more _ _ _ _ (c .before .before .before .loop .inv .1) (sym (c .before .row-ok .ensures) ∙ not-false _ (c .if1 .left)))
 
--- src/images.rt:39:1
 returns-2 : tie.Need-returns-2 Inv-loop μ-loop
 returns-2 c = let e : c .before .loop .line ≡ c .before .before .before .before .before .args .n = omega arith in sym (rw e at (c .before .loop .inv .1))
 

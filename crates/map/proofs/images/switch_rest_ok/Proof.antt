@@ -1,21 +1,16 @@
+-- `map::images::switch_rest_ok` meets its contract.
+-- Assumes nothing.
 use Rattle.map.proofs.Steps.{rest-more, rest-fails}
-use mathlib.Core.Path.{_≡_, sym, _∙_, ap}
+use mathlib.Core.Path.{_≡_, sym}
 use mathlib.Core.Bool.{true}
 use Prim.Native.Nat.{_+_, _-_, _*_, _≤_}
 use native.Mathlib.Omega.{arith}
 use borrow.Author.Needs.{needs}
-use lib.ListN.{length, getD}
 use Rattle.map.specs.Lists.{allFrom}
-use Rattle.map.specs.ListLaws.{all-none, all-more, all-fails}
-use Rattle.map.specs.Map.{linesOf}
+use Rattle.map.specs.ListLaws.{all-none}
 use Rattle.map.specs.Images.{okAt}
 use Rattle.map.proofs.images.switch_rest_ok.Statement.{statement}
 use Rattle.map.proofs.images.switch_rest_ok.Tie as tie
-use Rattle.map.proofs.images.switch_rest_ok.Reads as reads
-use Rattle.map.proofs.images.switch_rest_ok.Lts as lts
-use Rattle.map.proofs.members.lines.Reads as lines-reads
-use Rattle.map.proofs.members.switch_bytes.Reads as switch-bytes-reads
-use Rattle.map.proofs.registers.switch_reset.Reads as switch-reset-reads
 
 abbrev Inv-loop : tie.InvT-loop
 Inv-loop member image listed from i₀ i = (i ≤ 33 - from) × (allFrom (okAt member image) (0x043 + from) i ≡ true)
@@ -23,66 +18,51 @@ Inv-loop member image listed from i₀ i = (i ≤ 33 - from) × (allFrom (okAt m
 abbrev μ-loop : tie.MeasureT-loop
 μ-loop member image listed from i₀ i = 33 - from - i
 
--- src/images.rt:72:9
 switch-bytes-requires : tie.Need-switch-bytes-requires Inv-loop μ-loop
 switch-bytes-requires c κs = search needs
 
--- src/images.rt:73:20
 lines-requires : tie.Need-lines-requires Inv-loop μ-loop
 lines-requires c κs = search needs
 
--- src/images.rt:73:16
 mul-from : tie.Need-mul-from Inv-loop μ-loop
 mul-from c = omega arith
 
--- src/images.rt:75:5
 loop-holds : tie.Need-loop-holds Inv-loop μ-loop
 loop-holds c = (omega arith, all-none _ _)
 
--- src/images.rt:75:15
 sub-loop : tie.Need-sub-loop Inv-loop μ-loop
 sub-loop c = omega arith
 
--- src/images.rt:76:18
 add-if1 : tie.Need-add-if1 Inv-loop μ-loop
 add-if1 c = omega arith
 
--- src/images.rt:76:18
 add-if1-2 : tie.Need-add-if1-2 Inv-loop μ-loop
 add-if1-2 c = omega arith
 
--- src/images.rt:76:12
 shared-slice-read-if1 : tie.Need-shared-slice-read-if1 Inv-loop μ-loop
 shared-slice-read-if1 c = omega arith
 
--- src/images.rt:76:60
 add-switch-reset : tie.Need-add-switch-reset Inv-loop μ-loop
 add-switch-reset c = omega arith
 
--- src/images.rt:76:39
 switch-reset-requires : tie.Need-switch-reset-requires Inv-loop μ-loop
 switch-reset-requires c κs = search needs
 
--- src/images.rt:77:13
 returns : tie.Need-returns Inv-loop μ-loop
 returns c = rest-fails _ _ _ _ (c .before .before .before .before .loop .i) _ (c .before .before .before .before .before .lines .ensures .0) (c .before .before .before .before .before .before .switch-bytes .ensures) (omega arith) (c .before .switch-reset .ensures) (c .if1 .taken)
 
--- src/images.rt:79:9
 add-i : tie.Need-add-i Inv-loop μ-loop
 add-i c = omega arith
 
--- src/images.rt:75:5
 loop-less : tie.Need-loop-less Inv-loop μ-loop
 loop-less c = omega arith
 
--- src/images.rt:75:5
 loop-again : tie.Need-loop-again Inv-loop μ-loop
 loop-again c = (
   omega arith,
   rest-more _ _ _ _ _ _ (c .before .before .before .before .before .lines .ensures .0) (c .before .before .before .before .before .before .switch-bytes .ensures) (omega arith) (c .before .switch-reset .ensures) (c .if1 .left) (c .before .before .before .before .loop .inv .1),
 )
 
--- src/images.rt:68:1
 returns-2 : tie.Need-returns-2 Inv-loop μ-loop
 returns-2 c =
     let e : c .before .loop .i ≡ 33 - 3 * c .before .before .lines .result = omega arith in

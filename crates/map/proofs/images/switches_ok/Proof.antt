@@ -1,5 +1,6 @@
-use mathlib.Core.Path.{_≡_, refl, sym, _∙_}
-use native.Mathlib.Omega.{arith}
+-- `map::images::switches_ok` meets its contract.
+-- Assumes nothing.
+use mathlib.Core.Path.{refl, sym, _∙_}
 use borrow.Author.Tests.{not-true, not-false}
 use Rattle.map.specs.Lists.{table, tableFrom}
 use Rattle.map.specs.Map.{switchMask}
@@ -7,49 +8,33 @@ use Rattle.map.proofs.Whole.{wide, switches-asked, switches-whole, rows
 use borrow.Author.Needs.{needs}
 use Rattle.map.proofs.images.switches_ok.Statement.{statement}
 use Rattle.map.proofs.images.switches_ok.Tie as tie
-use Rattle.map.proofs.images.switches_ok.Reads as reads
-use Rattle.map.proofs.images.switches_ok.Lts as lts
-use Rattle.map.proofs.images.rows_ok.Reads as rows-ok-reads
-use Rattle.map.proofs.images.switch_masks.Reads as switch-masks-reads
-use Rattle.map.proofs.images.switch_rest_ok.Reads as switch-rest-ok-reads
-use Rattle.map.proofs.members.columns.Reads as columns-reads
-use Rattle.map.proofs.members.lines.Reads as lines-reads
 
--- src/images.rt:102:9
 lines-requires : tie.Need-lines-requires
 lines-requires c κs = search needs
 
--- src/images.rt:103:30
 columns-requires : tie.Need-columns-requires
 columns-requires c κs = search needs
 
--- src/images.rt:103:17
 switch-masks-requires : tie.Need-switch-masks-requires
 switch-masks-requires c κs = search needs
 
--- src/images.rt:104:42
 slice-aggregate-rows-ok : tie.Need-slice-aggregate-rows-ok
 slice-aggregate-rows-ok c = search needs
 
--- src/images.rt:104:50
 slice-aggregate-rows-ok-2 : tie.Need-slice-aggregate-rows-ok-2
 slice-aggregate-rows-ok-2 c = search needs
 
--- src/images.rt:104:9
 rows-ok-requires : tie.Need-rows-ok-requires
 unfolding table tableFrom
 rows-ok-requires c κs = switches-asked _ _ _ _ (c .before .before .before .before .before .before .args .image .now) (c .before .before .before .before .before .before .pre .0) (c .before .before .before .before .before .before .pre .1) (c .before .before .before .before .lines .ensures .0) (c .before .before .before .before .lines .ensures .1) (c .before .before .before .columns .ensures) (c .before .before .switch-masks .ensures)
 
--- src/images.rt:105:9
 returns : tie.Need-returns
 unfolding table tableFrom
 returns c = rows-part _ _ 0x043 _ 3 _ 33 (wide _ (switchMask (c .before .before .before .before .before .columns .result)) 3 (c .before .before .before .before .switch-masks .ensures)) (c .before .before .before .before .before .before .lines .ensures .0) refl (sym (c .before .rows-ok .ensures) ∙ not-true _ (c .if1 .taken))
 
--- src/images.rt:107:5
 switch-rest-ok-requires : tie.Need-switch-rest-ok-requires
 switch-rest-ok-requires c κs = search needs
 
--- src/images.rt:98:1
 returns-2 : tie.Need-returns-2
 unfolding table tableFrom
 returns-2 c =

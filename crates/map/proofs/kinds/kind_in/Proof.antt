@@ -1,68 +1,54 @@
+-- `map::kinds::kind_in` meets its contract.
+-- Assumes nothing.
 use Rattle.map.specs.KindLaws.{kind-in-past, kind-in-at, kind-in-other}
-use mathlib.Core.Path.{refl, sym, _∙_}
-use borrow.Author.Tests.{ne-eqb}
-use Rattle.map.specs.KindTable.{kindIn, kindNamed}
-use Rattle.map.specs.KindLaws.{kind-in-past, kind-in-at}
+use mathlib.Core.Path.{sym}
+use Rattle.map.specs.KindTable.{kindNamed}
 use borrow.Author.Needs.{needs}
 use Rattle.map.proofs.kinds.kind_in.Statement.{statement}
 use Rattle.map.proofs.kinds.kind_in.Tie as tie
-use Rattle.map.proofs.kinds.kind_in.Reads as reads
-use Rattle.map.proofs.kinds.kind_in.Lts as lts
 
--- src/kinds.rt:976:9
 returns : tie.Need-returns
 returns c = sym (kind-in-past _ _ (c .if1 .taken))
 
--- src/kinds.rt:978:13
 shared-slice-read-k : tie.Need-shared-slice-read-k
 shared-slice-read-k c = search needs
 
--- src/kinds.rt:972:1
 returns-2 : tie.Need-returns-2
 unfolding kindNamed
 returns-2 c = sym (kind-in-at _ _ 0 (c .before .before .if1 .left) (c .match .keys1))
 
--- src/kinds.rt:972:1
 returns-3 : tie.Need-returns-3
 unfolding kindNamed
 returns-3 c = sym (kind-in-at _ _ 1 (c .before .before .if1 .left) (c .match .keys2))
 
--- src/kinds.rt:972:1
 returns-4 : tie.Need-returns-4
 unfolding kindNamed
 returns-4 c = sym (kind-in-at _ _ 2 (c .before .before .if1 .left) (c .match .keys3))
 
--- src/kinds.rt:972:1
 returns-5 : tie.Need-returns-5
 unfolding kindNamed
 returns-5 c = sym (kind-in-at _ _ 3 (c .before .before .if1 .left) (c .match .keys4))
 
--- src/kinds.rt:972:1
 returns-6 : tie.Need-returns-6
 unfolding kindNamed
 returns-6 c = sym (kind-in-at _ _ 4 (c .before .before .if1 .left) (c .match .keys5))
 
--- src/kinds.rt:972:1
 returns-7 : tie.Need-returns-7
 unfolding kindNamed
 returns-7 c = sym (kind-in-at _ _ 5 (c .before .before .if1 .left) (c .match .keys6))
 
--- src/kinds.rt:972:1
 returns-8 : tie.Need-returns-8
 unfolding kindNamed
 returns-8 c = sym (kind-in-at _ _ 6 (c .before .before .if1 .left) (c .match .keys7))
 
--- src/kinds.rt:972:1
 returns-9 : tie.Need-returns-9
 unfolding kindNamed
 returns-9 c = sym (kind-in-at _ _ 7 (c .before .before .if1 .left) (c .match .keys8))
 
--- src/kinds.rt:972:1
 returns-10 : tie.Need-returns-10
 unfolding kindNamed
 returns-10 c = sym (kind-in-at _ _ 8 (c .before .before .if1 .left) (c .match .keys9))
 
--- src/kinds.rt:972:1
 returns-11 : tie.Need-returns-11
 returns-11 c = sym (kind-in-other _ _ (c .before .before .if1 .left) (c .match .rest .0 .0 .0 .0 .0 .0 .0 .0 .1) (c .match .rest .0 .0 .0 .0 .0 .0 .0 .1) (c .match .rest .0 .0 .0 .0 .0 .0 .1) (c .match .rest .0 .0 .0 .0 .0 .1) (c .match .rest .0 .0 .0 .0 .1) (c .match .rest .0 .0 .0 .1) (c .match .rest .0 .0 .1) (c .match .rest .0 .1) (c .match .rest .1))
 

@@ -1,13 +1,12 @@
+-- `map::kinds::kind_table` meets its contract.
+-- Assumes nothing.
 use mathlib.Core.Path.{refl}
 use Rattle.map.specs.Lists.{table, tableFrom}
 use Rattle.map.specs.Map.{kindOf}
 use Rattle.map.specs.KindTable.{kindTable, kindNumberAt}
 use Rattle.map.proofs.kinds.kind_table.Statement.{statement}
 use Rattle.map.proofs.kinds.kind_table.Tie as tie
-use Rattle.map.proofs.kinds.kind_table.Reads as reads
-use Rattle.map.proofs.kinds.kind_table.Lts as lts
 
--- src/kinds.rt:965:1
 returns : tie.Need-returns
 unfolding kindTable kindNumberAt kindOf table tableFrom
 returns c = refl

@@ -1,28 +1,22 @@
+-- `map::members::columns` meets its contract.
+-- Assumes nothing.
 use Rattle.map.specs.MapLaws.{columns-none}
-use mathlib.Core.Path.{refl, sym, _∙_}
-use native.Mathlib.Omega.{arith}
-use lib.ListN.{List·getD-eq-default}
+use mathlib.Core.Path.{refl, sym}
 use Rattle.map.specs.Map.{columnsOf}
 use borrow.Author.Needs.{needs}
 use Rattle.map.proofs.members.columns.Statement.{statement}
 use Rattle.map.proofs.members.columns.Tie as tie
-use Rattle.map.proofs.members.columns.Reads as reads
-use Rattle.map.proofs.members.columns.Lts as lts
 
--- src/members.rt:72:21
 mul-result : tie.Need-mul-result
 mul-result c = search needs
 
--- src/members.rt:72:21
 array-read-result : tie.Need-array-read-result
 array-read-result c = search needs
 
--- src/members.rt:69:1
 returns : tie.Need-returns
 unfolding columnsOf
 returns c = refl
 
--- src/members.rt:69:1
 returns-2 : tie.Need-returns-2
 returns-2 c = sym (columns-none _ (c .if1 .left))
 

@@ -1,34 +1,27 @@
-use borrow.Author.Tests.{le-ltb, lt-ltb}
-use mathlib.Core.Path.{sym, ap, _∙_}
+-- `map::members::first_mask` meets its contract.
+-- Assumes nothing.
+use borrow.Author.Tests.{le-ltb}
+use mathlib.Core.Path.{sym}
 use native.Mathlib.Omega.{arith}
-use lib.ListN.{getD}
 use Rattle.map.specs.Map.{firstMask}
 use Rattle.map.proofs.Tables.{mask-past, entry}
 use borrow.Author.Needs.{needs}
 use Rattle.map.proofs.members.first_mask.Statement.{statement}
 use Rattle.map.proofs.members.first_mask.Tie as tie
-use Rattle.map.proofs.members.first_mask.Reads as reads
-use Rattle.map.proofs.members.first_mask.Lts as lts
-use Rattle.map.proofs.members.first_masks.Reads as first-masks-reads
 
--- src/members.rt:103:9
 returns : tie.Need-returns
 unfolding firstMask
 returns c = simp (le-ltb _ 5 (c .if1 .taken))
 
--- src/members.rt:106:9
 returns-2 : tie.Need-returns-2
 returns-2 c = sym (mask-past _ _ (c .if2 .taken))
 
--- src/members.rt:108:17
 first-masks-requires : tie.Need-first-masks-requires
 first-masks-requires c κs = search needs
 
--- src/members.rt:109:5
 array-read-result : tie.Need-array-read-result
 array-read-result c = search needs
 
--- src/members.rt:99:1
 returns-3 : tie.Need-returns-3
 returns-3 c = entry _ _ _ (omega arith) (omega arith) (c .first-masks .ensures)
 

@@ -1,22 +1,18 @@
+-- `map::registers::current_reserved` meets its contract.
+-- Assumes nothing.
 use mathlib.Core.Path.{sym, _∙_}
 use Rattle.map.specs.Map.{currentReserved}
 use borrow.Author.Needs.{needs}
 use Rattle.map.proofs.registers.current_reserved.Statement.{statement}
 use Rattle.map.proofs.registers.current_reserved.Tie as tie
-use Rattle.map.proofs.registers.current_reserved.Reads as reads
-use Rattle.map.proofs.registers.current_reserved.Lts as lts
-use Rattle.map.proofs.dots.number_in.Reads as number-in-reads
 
--- src/registers.rt:83:8
 number-in-requires : tie.Need-number-in-requires
 number-in-requires c κs = search needs
 
--- src/registers.rt:80:1
 returns : tie.Need-returns
 unfolding currentReserved
 returns c = simp (sym (c .before .number-in .ensures) ∙ c .if1 .taken)
 
--- src/registers.rt:80:1
 returns-2 : tie.Need-returns-2
 unfolding currentReserved
 returns-2 c = simp (sym (c .before .number-in .ensures) ∙ c .if1 .left)

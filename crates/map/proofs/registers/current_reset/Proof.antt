@@ -1,16 +1,14 @@
-use borrow.Author.Tests.{lt-ltb, le-ltb, eq-eqb, ne-eqb}
+-- `map::registers::current_reset` meets its contract.
+-- Assumes nothing.
+use borrow.Author.Tests.{lt-ltb, le-ltb}
 use Rattle.map.specs.Map.{currentReset}
 use Rattle.map.proofs.registers.current_reset.Statement.{statement}
 use Rattle.map.proofs.registers.current_reset.Tie as tie
-use Rattle.map.proofs.registers.current_reset.Reads as reads
-use Rattle.map.proofs.registers.current_reset.Lts as lts
 
--- src/registers.rt:147:1
 returns : tie.Need-returns
 unfolding currentReset
 returns c = simp (lt-ltb _ _ (c .if1 .taken))
 
--- src/registers.rt:147:1
 returns-2 : tie.Need-returns-2
 unfolding currentReset
 returns-2 c = simp (le-ltb _ _ (c .if1 .left))

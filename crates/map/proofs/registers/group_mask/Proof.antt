@@ -1,79 +1,61 @@
-use mathlib.Core.Path.{sym, _∙_}
+-- `map::registers::group_mask` meets its contract.
+-- Assumes nothing.
+use mathlib.Core.Path.{sym}
 use native.Mathlib.Omega.{arith}
 use Rattle.map.specs.Map.{groupMask}
 use Rattle.map.proofs.Masks.{group-past}
 use borrow.Author.Needs.{needs}
 use Rattle.map.proofs.registers.group_mask.Statement.{statement}
 use Rattle.map.proofs.registers.group_mask.Tie as tie
-use Rattle.map.proofs.registers.group_mask.Reads as reads
-use Rattle.map.proofs.registers.group_mask.Lts as lts
-use Rattle.map.proofs.registers.no_sink.Reads as no-sink-reads
 
--- src/registers.rt:30:9
 returns : tie.Need-returns
 returns c = sym (group-past _ _ (c .if1 .taken))
 
--- src/registers.rt:32:13
 mul-s : tie.Need-mul-s
 mul-s c = search needs
 
--- src/registers.rt:33:9
 no-sink-requires : tie.Need-no-sink-requires
 no-sink-requires c κs = search needs
 
--- src/registers.rt:34:30
 add-no-sink : tie.Need-add-no-sink
 add-no-sink c = search needs
 
--- src/registers.rt:34:9
 no-sink-requires-2 : tie.Need-no-sink-requires-2
 no-sink-requires-2 c κs = search needs
 
--- src/registers.rt:35:30
 add-no-sink-2 : tie.Need-add-no-sink-2
 add-no-sink-2 c = search needs
 
--- src/registers.rt:35:9
 no-sink-requires-3 : tie.Need-no-sink-requires-3
 no-sink-requires-3 c κs = search needs
 
--- src/registers.rt:36:30
 add-no-sink-3 : tie.Need-add-no-sink-3
 add-no-sink-3 c = search needs
 
--- src/registers.rt:36:9
 no-sink-requires-4 : tie.Need-no-sink-requires-4
 no-sink-requires-4 c κs = search needs
 
--- src/registers.rt:37:5
 mul-result : tie.Need-mul-result
 mul-result c = search needs
 
--- src/registers.rt:37:13
 mul-result-2 : tie.Need-mul-result-2
 mul-result-2 c = search needs
 
--- src/registers.rt:37:5
 add-result : tie.Need-add-result
 add-result c = search needs
 
--- src/registers.rt:37:22
 mul-result-3 : tie.Need-mul-result-3
 mul-result-3 c = search needs
 
--- src/registers.rt:37:5
 add-result-2 : tie.Need-add-result-2
 add-result-2 c = search needs
 
--- src/registers.rt:37:31
 mul-result-4 : tie.Need-mul-result-4
 mul-result-4 c = search needs
 
--- src/registers.rt:37:5
 add-result-3 : tie.Need-add-result-3
 add-result-3 c = search needs
 
--- src/registers.rt:26:1
 returns-2 : tie.Need-returns-2
 unfolding groupMask
 returns-2 c = omega arith

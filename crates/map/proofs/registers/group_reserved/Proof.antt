@@ -1,23 +1,19 @@
-use mathlib.Core.Path.{sym, _∙_}
+-- `map::registers::group_reserved` meets its contract.
+-- Assumes nothing.
+use mathlib.Core.Path.{_∙_}
 use borrow.Author.Tests.{lt-ltb, le-ltb}
 use Rattle.map.specs.Map.{groupReserved}
 use borrow.Author.Needs.{needs}
 use Rattle.map.proofs.registers.group_reserved.Statement.{statement}
 use Rattle.map.proofs.registers.group_reserved.Tie as tie
-use Rattle.map.proofs.registers.group_reserved.Reads as reads
-use Rattle.map.proofs.registers.group_reserved.Lts as lts
-use Rattle.map.proofs.registers.group_mask.Reads as group-mask-reads
 
--- src/registers.rt:64:9
 group-mask-requires : tie.Need-group-mask-requires
 group-mask-requires c κs = search needs
 
--- src/registers.rt:60:1
 returns : tie.Need-returns
 unfolding groupReserved
 returns c = c .group-mask .ensures ∙ simp (lt-ltb _ _ (c .before .if1 .taken))
 
--- src/registers.rt:60:1
 returns-2 : tie.Need-returns-2
 unfolding groupReserved
 returns-2 c = simp (le-ltb _ _ (c .if1 .left))

@@ -1,22 +1,18 @@
+-- `map::registers::no_sink` meets its contract.
+-- Assumes nothing.
 use mathlib.Core.Path.{sym, _∙_}
 use Rattle.map.specs.Map.{noSink, dotIn}
 use borrow.Author.Needs.{needs}
 use Rattle.map.proofs.registers.no_sink.Statement.{statement}
 use Rattle.map.proofs.registers.no_sink.Tie as tie
-use Rattle.map.proofs.registers.no_sink.Reads as reads
-use Rattle.map.proofs.registers.no_sink.Lts as lts
-use Rattle.map.proofs.dots.dot_in.Reads as dot-in-reads
 
--- src/registers.rt:22:8
 dot-in-requires : tie.Need-dot-in-requires
 dot-in-requires c κs = search needs
 
--- src/registers.rt:19:1
 returns : tie.Need-returns
 unfolding noSink dotIn
 returns c = (simp (sym (c .before .dot-in .ensures) ∙ c .if1 .taken), search needs)
 
--- src/registers.rt:19:1
 returns-2 : tie.Need-returns-2
 unfolding noSink dotIn
 returns-2 c = (simp (sym (c .before .dot-in .ensures) ∙ c .if1 .left), search needs)

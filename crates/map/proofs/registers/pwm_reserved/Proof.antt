@@ -1,31 +1,25 @@
+-- `map::registers::pwm_reserved` meets its contract.
+-- Assumes nothing.
 use mathlib.Core.Path.{sym, _∙_}
 use Rattle.map.specs.Map.{pwmReserved}
 use borrow.Author.Needs.{needs}
 use Rattle.map.proofs.registers.pwm_reserved.Statement.{statement}
 use Rattle.map.proofs.registers.pwm_reserved.Tie as tie
-use Rattle.map.proofs.registers.pwm_reserved.Reads as reads
-use Rattle.map.proofs.registers.pwm_reserved.Lts as lts
-use Rattle.map.proofs.dots.number_in.Reads as number-in-reads
 
--- src/registers.rt:90:8
 number-in-requires : tie.Need-number-in-requires
 number-in-requires c κs = search needs
 
--- src/registers.rt:91:9
 returns : tie.Need-returns
 unfolding pwmReserved
 returns c = simp (sym (c .before .number-in .ensures) ∙ c .if1 .taken)
 
--- src/registers.rt:93:8
 number-in-requires-2 : tie.Need-number-in-requires-2
 number-in-requires-2 c κs = search needs
 
--- src/registers.rt:94:9
 returns-2 : tie.Need-returns-2
 unfolding pwmReserved
 returns-2 c = simp (sym (c .before .before .before .number-in .ensures) ∙ c .before .before .if1 .left, sym (c .before .number-in2 .ensures) ∙ c .if2 .taken)
 
--- src/registers.rt:87:1
 returns-3 : tie.Need-returns-3
 unfolding pwmReserved
 returns-3 c = simp (sym (c .before .before .before .number-in .ensures) ∙ c .before .before .if1 .left, sym (c .before .number-in2 .ensures) ∙ c .if2 .left)

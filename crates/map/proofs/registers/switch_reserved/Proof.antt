@@ -1,23 +1,19 @@
-use mathlib.Core.Path.{sym, _∙_}
+-- `map::registers::switch_reserved` meets its contract.
+-- Assumes nothing.
+use mathlib.Core.Path.{_∙_}
 use borrow.Author.Tests.{lt-ltb, le-ltb}
 use Rattle.map.specs.Map.{switchReserved}
 use borrow.Author.Needs.{needs}
 use Rattle.map.proofs.registers.switch_reserved.Statement.{statement}
 use Rattle.map.proofs.registers.switch_reserved.Tie as tie
-use Rattle.map.proofs.registers.switch_reserved.Reads as reads
-use Rattle.map.proofs.registers.switch_reserved.Lts as lts
-use Rattle.map.proofs.registers.switch_mask.Reads as switch-mask-reads
 
--- src/registers.rt:74:9
 switch-mask-requires : tie.Need-switch-mask-requires
 switch-mask-requires c κs = search needs
 
--- src/registers.rt:70:1
 returns : tie.Need-returns
 unfolding switchReserved
 returns c = c .switch-mask .ensures ∙ simp (lt-ltb _ _ (c .before .if1 .taken))
 
--- src/registers.rt:70:1
 returns-2 : tie.Need-returns-2
 unfolding switchReserved
 returns-2 c = simp (le-ltb _ _ (c .if1 .left))

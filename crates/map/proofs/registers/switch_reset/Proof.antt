@@ -1,22 +1,18 @@
-use mathlib.Core.Path.{sym, _∙_}
+-- `map::registers::switch_reset` meets its contract.
+-- Assumes nothing.
 use borrow.Author.Tests.{lt-ltb, le-ltb, eq-eqb, ne-eqb}
 use Rattle.map.specs.Map.{switchReset}
 use Rattle.map.proofs.registers.switch_reset.Statement.{statement}
 use Rattle.map.proofs.registers.switch_reset.Tie as tie
-use Rattle.map.proofs.registers.switch_reset.Reads as reads
-use Rattle.map.proofs.registers.switch_reset.Lts as lts
 
--- src/registers.rt:141:9
 returns : tie.Need-returns
 unfolding switchReset
 returns c = simp (le-ltb _ _ (c .if1 .taken))
 
--- src/registers.rt:137:1
 returns-2 : tie.Need-returns-2
 unfolding switchReset
 returns-2 c = simp (lt-ltb _ _ (c .before .if1 .left), eq-eqb _ _ (c .if2 .taken))
 
--- src/registers.rt:137:1
 returns-3 : tie.Need-returns-3
 unfolding switchReset
 returns-3 c = simp (lt-ltb _ _ (c .before .if1 .left), ne-eqb _ _ (c .if2 .left))
