@@ -5,6 +5,7 @@ pub mod MapLaws
 pub mod KindTable
 pub mod KindLaws
 pub mod Refusals
+pub mod RefusalLaws
 pub mod Images
 pub mod Carries
 pub mod ByteLaws

@@ -5,7 +5,7 @@ use mathlib.Core.Bool.{true, false}
 use Prim.Native.Nat.{ℕ}
 use Rattle.map.specs.declared.dots.Field.the-variants.{Current, Pwm8, Pwm16}
 use Rattle.map.specs.declared.dots.Place.the-variants.{At, Absent}
-use Rattle.map.specs.Map.{linesOf, columnsOf, hasColumn, dotIn, isDot, numberIn, kindOf, addressOf, shiftOf, placeAs, placeOf, lineNumber, dataMode, isWide, pwmReserved, reservedAs, reservedOf, writableOf, switchBytesOf, switchReset, resetAs, resetOf}
+use Rattle.map.specs.Map.{linesOf, columnsOf, hasColumn, dotIn, isDot, numberIn, kindOf, addressOf, shiftOf, placeAs, placeOf, lineNumber, dataMode, pwmReserved, reservedAs, reservedOf, writableOf, switchBytesOf, switchReset, resetAs, resetOf}
 
 -- "5Eh at 001h: 11 lines, mode 3."
 pub start-lines : lineNumber 0x5E ≡ 11

@@ -1,6 +1,6 @@
-// The refusals of every call, and their numbers.
+// The refusals of every call and their numbers, and what a call without further values answers.
 ghost use mathlib.Core.Path.{_≡_};
-ghost use Rattle.map.specs.Refusals.{refusalNumber};
+ghost use Rattle.map.specs.Refusals.{refusalNumber, answerNumber, openAnswer};
 
 pub enum Refusal {
     // a member above 4
@@ -49,4 +49,42 @@ pub fn refusal_number(refusal: Refusal) -> u8
         Refusal::FaultLength => 13,
         Refusal::Unsound => 14,
     }
+}
+
+// What a call answers that hands back no value of its own.
+pub enum Answer {
+    Accepted,
+    Refused(Refusal),
+}
+
+// 0 where the call is accepted, else the refusal's number.
+pub fn answer_number(answer: Answer) -> u8
+    ensures { λ r. ⌜ r ≡ answerNumber answer ⌝ }
+{
+    match answer {
+        Answer::Accepted => 0,
+        Answer::Refused(refusal) => refusal_number(refusal),
+    }
+}
+
+// What Open answers to a member, a bus (0 I2C, 1 SPI) and pins.
+pub fn open_answer(member: usize, bus: usize, pins: usize) -> Answer
+    ensures { λ r. ⌜ r ≡ openAnswer member bus pins ⌝ }
+{
+    if 4 < member {
+        return Answer::Refused(Refusal::Member);
+    }
+    if 1 < bus {
+        return Answer::Refused(Refusal::Bus);
+    }
+    if 3 < pins {
+        return Answer::Refused(Refusal::Pins);
+    }
+    if bus == 0 {
+        return Answer::Accepted;
+    }
+    if 0 < pins {
+        return Answer::Refused(Refusal::Pins);
+    }
+    Answer::Accepted
 }
