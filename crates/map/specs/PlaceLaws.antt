@@ -136,6 +136,27 @@ dot-free m l s e = record {
     next : (x : ℕ) → 0x200 + x + 1 ≡ 0x200 + (x + 1)
     next x = omega arith
 
+-- a place lies within the map, and a field of less than a byte within its byte
+pub place-below : (f : Field) (l s : ℕ) → l < 11 → s < 18 → addressOf f l s < 908
+unfolding addressOf
+place-below Group l s hl hs = omega arith
+place-below Switch l s hl hs = omega arith
+place-below Open l s hl hs = omega arith
+place-below Short l s hl hs = omega arith
+place-below Current l s hl hs = omega arith
+place-below Pwm8 l s hl hs = omega arith
+place-below Pwm16 l s hl hs = omega arith
+
+pub field-inside : (f : Field) (s : ℕ) → widthOf f < 8 → (shiftOf f s + widthOf f ≤ 8) × (0 < widthOf f)
+unfolding shiftOf widthOf
+field-inside Group s h = (omega arith, omega arith)
+field-inside Switch s h = (omega arith, omega arith)
+field-inside Open s h = (omega arith, omega arith)
+field-inside Short s h = (omega arith, omega arith)
+field-inside Current s h = (omega arith, omega arith)
+field-inside Pwm8 s h = (omega arith, omega arith)
+field-inside Pwm16 s h = (absurd (omega arith), absurd (omega arith))
+
 -- ---- two places never meet
 
 -- bits are counted through the whole image, eight to an address

@@ -1,7 +1,7 @@
 // Dots, their numbers, and the places of their bits.
 ghost use mathlib.Core.Path.{_≡_};
 ghost use Prim.Native.Nat.{_<_};
-ghost use Rattle.map.specs.Map.{hasColumn, dotIn, numberIn, isDot, numberOf, dotOf, placeAs, placeOf};
+ghost use Rattle.map.specs.Map.{hasColumn, dotIn, numberIn, isDot, numberOf, dotOf, widthOf, placeAs, placeOf};
 use crate::members;
 
 // A dot's number, where the member has the dot.
@@ -32,6 +32,21 @@ pub enum Field {
 pub enum Place {
     At { address: usize, shift: usize },
     Absent,
+}
+
+// How many bits a field has.
+pub fn width_of(field: Field) -> usize
+    ensures { λ r. ⌜ r ≡ widthOf field ⌝ }
+{
+    match field {
+        Field::Group => 2,
+        Field::Switch => 1,
+        Field::Open => 1,
+        Field::Short => 1,
+        Field::Current => 8,
+        Field::Pwm8 => 8,
+        Field::Pwm16 => 16,
+    }
 }
 
 fn has_column(columns: u32, sink: usize) -> bool

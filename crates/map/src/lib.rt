@@ -22,6 +22,7 @@ pub use dots::dot_of;
 pub use dots::is_dot;
 pub use dots::number_in;
 pub use dots::place_of;
+pub use dots::width_of;
 pub use images::image_ok;
 pub use images::registers_ok;
 pub use images::reset_image;

@@ -72,14 +72,14 @@ pub fn columns(member: usize) -> u32
     if member < 5 { COLUMNS[member] } else { 0 }
 }
 
-pub fn switch_bytes(member: usize) -> usize
+pub(crate) fn switch_bytes(member: usize) -> usize
     ensures { λ r. ⌜ r ≡ switchBytesOf member ⌝ }
 {
     if member < 5 { SWITCH_BYTES[member] } else { 0 }
 }
 
 // The reserved bits of the first twelve registers, for a member below 5.
-pub fn first_masks(member: usize) -> [u8; 12]
+pub(crate) fn first_masks(member: usize) -> [u8; 12]
     ensures { λ r. ⌜ r ≡ firstMasks member ⌝ }
 {
     if member == 1 {
@@ -89,14 +89,14 @@ pub fn first_masks(member: usize) -> [u8; 12]
     }
 }
 
-pub fn first_resets() -> [u8; 12]
+pub(crate) fn first_resets() -> [u8; 12]
     ensures { λ r. ⌜ r ≡ firstResets ⌝ }
 {
     FIRST_RESETS
 }
 
 // The reserved bits of one of them; all bits elsewhere.
-pub fn first_mask(member: usize, address: usize) -> u8
+pub(crate) fn first_mask(member: usize, address: usize) -> u8
     ensures { λ r. ⌜ r ≡ firstMask member address ⌝ }
 {
     if 4 < member {
@@ -109,7 +109,7 @@ pub fn first_mask(member: usize, address: usize) -> u8
     masks[address]
 }
 
-pub fn first_reset(member: usize, address: usize) -> u8
+pub(crate) fn first_reset(member: usize, address: usize) -> u8
     ensures { λ r. ⌜ r ≡ firstReset member address ⌝ }
 {
     if 4 < member {

@@ -1,0 +1,4 @@
+pub mod Record
+pub mod Numbered
+pub mod BitLaws
+pub mod RecordLaws

@@ -1,0 +1,120 @@
+// What each setting answers: the refusals in the order that the calls check them.
+ghost use mathlib.Core.Path.{_≡_};
+ghost use Rattle.host.specs.Record.{recordOf, soundOf, soundAnswer, registerAnswer, topLevel, lampAnswer, fieldAnswer};
+ghost use Rattle.map.specs.Images.{okByte};
+use map::Answer;
+use map::Refusal;
+
+pub(crate) fn sound<'a>(member: u8, bus: u8, pins: u8, settings: &'a [u8], image: &'a [u8]) -> bool
+    ensures { λ r. ⌜ r ≡ soundOf (recordOf member bus pins (now (settings .entry)) (now (image .entry))) ⌝ }
+{
+    let answer = map::open_answer(member as usize, bus as usize, pins as usize);
+    let Answer::Accepted = answer else {
+        return false;
+    };
+    if !map::image_ok(member as usize, settings) {
+        return false;
+    }
+    map::image_ok(member as usize, image)
+}
+
+pub(crate) fn unsound<'a>(member: u8, bus: u8, pins: u8, settings: &'a [u8], image: &'a [u8]) -> Answer
+    ensures { λ r. ⌜ r ≡ soundAnswer (recordOf member bus pins (now (settings .entry)) (now (image .entry))) ⌝ }
+{
+    if !sound(member, bus, pins, settings, image) {
+        return Answer::Refused(Refusal::Unsound);
+    }
+    Answer::Accepted
+}
+
+// Whether the reserved bits of a byte are those of the reset value.
+fn fits(member: usize, address: usize, value: u8) -> bool
+    ensures { λ r. ⌜ r ≡ okByte member address value ⌝ }
+{
+    let mask = map::reserved(member, address);
+    let reset = map::reset_value(member, address);
+    value & mask == reset & mask
+}
+
+pub(crate) fn register<'a>(
+    member: u8,
+    bus: u8,
+    pins: u8,
+    settings: &'a [u8],
+    image: &'a [u8],
+    address: usize,
+    value: u8,
+) -> Answer
+    ensures { λ r. ⌜ r ≡ registerAnswer (recordOf member bus pins (now (settings .entry)) (now (image .entry))) address value ⌝ }
+{
+    if !sound(member, bus, pins, settings, image) {
+        return Answer::Refused(Refusal::Unsound);
+    }
+    if !map::writable(member as usize, address) {
+        return Answer::Refused(Refusal::NotWritable);
+    }
+    if !fits(member as usize, address, value) {
+        return Answer::Refused(Refusal::ReservedBit);
+    }
+    Answer::Accepted
+}
+
+// The largest level that the data mode of the settings holds.
+pub(crate) fn top_level(settings: &[u8]) -> usize
+    ensures { λ r. ⌜ r ≡ topLevel (now (settings .entry)) ⌝ }
+{
+    if settings.len() < 2 {
+        return 255;
+    }
+    if settings[1] / 2 % 4 < 2 { 255 } else { 65535 }
+}
+
+pub(crate) fn lamp<'a>(
+    member: u8,
+    bus: u8,
+    pins: u8,
+    settings: &'a [u8],
+    image: &'a [u8],
+    line: usize,
+    sink: usize,
+    level: usize,
+) -> Answer
+    ensures { λ r. ⌜ r ≡ lampAnswer (recordOf member bus pins (now (settings .entry)) (now (image .entry))) line sink level ⌝ }
+{
+    if !sound(member, bus, pins, settings, image) {
+        return Answer::Refused(Refusal::Unsound);
+    }
+    if !map::is_dot(member as usize, line, sink) {
+        return Answer::Refused(Refusal::NoDot);
+    }
+    if top_level(settings) < level {
+        return Answer::Refused(Refusal::Level);
+    }
+    Answer::Accepted
+}
+
+// A dot's group or switch, whose value is at most `top`.
+pub(crate) fn field<'a>(
+    member: u8,
+    bus: u8,
+    pins: u8,
+    settings: &'a [u8],
+    image: &'a [u8],
+    line: usize,
+    sink: usize,
+    value: usize,
+    top: usize,
+) -> Answer
+    ensures { λ r. ⌜ r ≡ fieldAnswer (recordOf member bus pins (now (settings .entry)) (now (image .entry))) line sink value top ⌝ }
+{
+    if !sound(member, bus, pins, settings, image) {
+        return Answer::Refused(Refusal::Unsound);
+    }
+    if !map::is_dot(member as usize, line, sink) {
+        return Answer::Refused(Refusal::NoDot);
+    }
+    if top < value {
+        return Answer::Refused(Refusal::GroupOrState);
+    }
+    Answer::Accepted
+}
