@@ -1,13 +1,13 @@
 -- The steps of the calls, over plain variables.
 -- Assumes nothing.
 use mathlib.Core.Path.{_≡_, refl, sym, ap, subst, _∙_}
-use mathlib.Core.Bool.{Bool, true, false, cond, _&&_, false≢true}
+use mathlib.Core.Bool.{Bool, true, false, cond, _&&_}
 use mathlib.Core.List.{List}
 use Prim.Native.Nat.{ℕ, _+_, _-_, _*_, _/_, _%_, _^_, _<_, _≤_}
 use native.Mathlib.Nat.{mod-eq-of-lt, lt-of-lt-of-le, zero-add}
 use native.Mathlib.Numerals.{add-one}
 use native.Mathlib.Omega.{arith}
-use borrow.Author.Tests.{lt-ltb, le-ltb, le-leb, lt-leb, eq-eqb, ne-eqb, leb-true, ltb-true, eqb-true}
+use borrow.Author.Tests.{le-leb, lt-leb, eq-eqb, ne-eqb, leb-true, ltb-true, eqb-true}
 use lib.Dec.{ltb, leb, eqb}
 use lib.Bits.{bitAnd}
 use lib.Pow.{pow-pos, pow-mono}
@@ -115,10 +115,13 @@ is-seven b h n0 n1 n2 n3 n4 n5 n6 = four (low b n0 n1 n2)
   where
     low : (b : ℕ) → (b ≡ 0 → ⊥) → (b ≡ 1 → ⊥) → (b ≡ 2 → ⊥) → 3 ≤ b
     low b p q r = omega arith
+
     middle : (b : ℕ) → 3 ≤ b → (b ≡ 3 → ⊥) → (b ≡ 4 → ⊥) → 5 ≤ b
     middle b l p q = omega arith
+
     high : (b : ℕ) → 5 ≤ b → b < 8 → (b ≡ 5 → ⊥) → (b ≡ 6 → ⊥) → b ≡ 7
     high b l u p q = omega arith
+
     four : 3 ≤ b → b ≡ 7
     four l = high b (middle b l n3 n4) h n5 n6
 
@@ -281,9 +284,9 @@ levels-counted settings bytes top n r e t q =
 pub sized-facts : (bytes : List ℕ) → sceneSized bytes ≡ true → (2 ≤ length bytes) × (length bytes ≡ 2 + 3 * sceneCount bytes)
 unfolding sceneSized
 sized-facts bytes e = (
-    leb-true 2 (length bytes) (and-left (leb 2 (length bytes)) _ e),
-    eqb-true _ _ (and-right (leb 2 (length bytes)) (eqb (length bytes) (2 + 3 * sceneCount bytes)) e),
-  )
+  leb-true 2 (length bytes) (and-left (leb 2 (length bytes)) _ e),
+  eqb-true _ _ (and-right (leb 2 (length bytes)) (eqb (length bytes) (2 + 3 * sceneCount bytes)) e),
+)
 
 pub sized-length : (bytes : List ℕ) (n : ℕ) → sceneSized bytes ≡ true → n ≡ sceneCount bytes → length bytes ≡ 2 + 3 * n
 sized-length bytes n e q = omega (arith, sized-facts bytes e .1)

@@ -1,7 +1,7 @@
 -- A field of a byte, put there: what is put is read back, the other bits stay, the last one put stands, a mask without the
 -- field does not see it. For a field of any width at any bit.
 -- Assumes nothing.
-use mathlib.Core.Path.{_≡_, refl, sym, ap, ap₂, subst, _∙_}
+use mathlib.Core.Path.{_≡_, sym, ap, ap₂, subst, _∙_}
 use Prim.Native.Nat.{ℕ, suc, _+_, _-_, _*_, _/_, _%_, _^_, _<_, _≤_}
 use native.Mathlib.Nat.{mod-lt, add-mul, suc-mul, mul-le-mul-right, lt-of-lt-of-le}
 use native.Mathlib.Omega.{arith}
@@ -93,6 +93,7 @@ module _ (p w : ℕ) (fits : p + w ≤ 8) where
     where
       room : p + w ≤ 8 → 8 ≡ 8 - (p + w) + (p + w)
       room h = omega arith
+
       all-bits : (k : ℕ) → p + w ≤ 8 → 8 - (p + w) + w + p ≡ 8
       all-bits k h = omega arith
 

@@ -1,4 +1,8 @@
 pub mod Record
 pub mod Numbered
+pub mod Reads
 pub mod BitLaws
 pub mod RecordLaws
+pub mod SoundLaws
+pub mod SettingLaws
+pub mod SceneLaws

@@ -1,19 +1,17 @@
 -- What follows from an accepted answer, and the records that the calls return.
 -- Assumes nothing.
-use mathlib.Core.Path.{_≡_, refl, sym, ap, _∙_}
-use mathlib.Core.Bool.{Bool, true, false, cond, _&&_, false≢true}
+use mathlib.Core.Path.{_≡_, refl}
+use mathlib.Core.Bool.{Bool, true, false, cond, false≢true}
 use mathlib.Core.List.{List}
-use Prim.Native.Nat.{ℕ, _+_, _*_, _<_, _≤_}
-use native.Mathlib.Omega.{arith}
-use borrow.Author.Tests.{leb-true, eqb-true}
-use lib.Dec.{leb, eqb}
-use lib.ListN.{length, set}
+use Prim.Native.Nat.{ℕ, _≤_}
+use borrow.Author.Tests.{leb-true}
+use lib.Dec.{leb}
 use Rattle.map.specs.declared.refusals.Answer.{Answer}
 use Rattle.map.specs.declared.refusals.Answer.the-variants.{Accepted, Refused}
 use Rattle.map.specs.declared.refusals.Refusal.{Refusal}
 use Rattle.map.specs.declared.refusals.Refusal.the-variants.{NotWritable, ReservedBit, NoDot, Level, GroupOrState, SceneLength, Unsound}
 use Rattle.map.specs.Refusals.{accepted}
-use Rattle.map.specs.Map.{linesOf, columnsOf, isDot, numberIn, writableOf}
+use Rattle.map.specs.Map.{isDot, writableOf}
 use Rattle.map.specs.Images.{okByte}
 use Rattle.map.specs.Lists.{allFrom}
 use Rattle.host.specs.declared.Record.{Record}

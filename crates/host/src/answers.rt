@@ -18,7 +18,13 @@ pub(crate) fn sound<'a>(member: u8, bus: u8, pins: u8, settings: &'a [u8], image
     map::image_ok(member as usize, image)
 }
 
-pub(crate) fn unsound<'a>(member: u8, bus: u8, pins: u8, settings: &'a [u8], image: &'a [u8]) -> Answer
+pub(crate) fn unsound<'a>(
+    member: u8,
+    bus: u8,
+    pins: u8,
+    settings: &'a [u8],
+    image: &'a [u8],
+) -> Answer
     ensures { λ r. ⌜ r ≡ soundAnswer (recordOf member bus pins (now (settings .entry)) (now (image .entry))) ⌝ }
 {
     if !sound(member, bus, pins, settings, image) {

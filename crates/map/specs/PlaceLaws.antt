@@ -108,7 +108,7 @@ pub dot-number : (m l s : ℕ) → isDot m l s ≡ true → dotNumber l s < 198
 dot-number m l s e = omega (arith, dot-line m l s e, dot-sink m l s e, lines-most m)
 
 -- a place x of the levels that either data mode gives a dot
-pwm-free : (m d x : ℕ) → numberIn (linesOf m) (columnsOf m) d ≡ true → x < 396 → (x ≡ d) ⊎ (x / 2 ≡ d) → reservedOf m (0x200 + x) ≡ 0
+pub pwm-free : (m d x : ℕ) → numberIn (linesOf m) (columnsOf m) d ≡ true → x < 396 → (x ≡ d) ⊎ (x / 2 ≡ d) → reservedOf m (0x200 + x) ≡ 0
 unfolding pwmReserved
 pwm-free m d x e h (inl q) = reserved-pwm m x h ∙ rw (q, e) (go (numberIn (linesOf m) (columnsOf m) (d / 2)))
   where

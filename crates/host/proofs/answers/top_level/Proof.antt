@@ -1,26 +1,20 @@
-use mathlib.Core.Path.{_≡_, refl, sym, ap, _∙_}
-use native.Mathlib.Omega.{arith}
-use borrow.Author.Tests.{not-true, not-false, le-leb, lt-leb, lt-ltb, le-ltb, eq-eqb, ne-eqb}
+-- `host::answers::top_level` meets its contract.
+-- Assumes nothing.
+use mathlib.Core.Path.{sym}
 use Rattle.host.proofs.Steps.{top-short, top-narrow, top-wide}
 use borrow.Author.Needs.{needs}
 use Rattle.host.proofs.answers.top_level.Statement.{statement}
 use Rattle.host.proofs.answers.top_level.Tie as tie
-use Rattle.host.proofs.answers.top_level.Reads as reads
-use Rattle.host.proofs.answers.top_level.Lts as lts
 
--- src/answers.rt:67:9
 returns : tie.Need-returns
 returns c = sym (top-short _ (c .if1 .taken))
 
--- src/answers.rt:69:8
 shared-slice-read-if2 : tie.Need-shared-slice-read-if2
 shared-slice-read-if2 c = search needs
 
--- src/answers.rt:63:1
 returns-2 : tie.Need-returns-2
 returns-2 c = sym (top-narrow _ (c .if2 .taken))
 
--- src/answers.rt:63:1
 returns-3 : tie.Need-returns-3
 returns-3 c = sym (top-wide _ (c .if2 .left))
 

@@ -1,40 +1,31 @@
-use mathlib.Core.Path.{_≡_, refl, sym, ap, _∙_}
+-- `host::scenes::store` meets its contract.
+-- Assumes nothing.
 use native.Mathlib.Omega.{arith}
-use borrow.Author.Tests.{not-true, not-false, le-leb, lt-leb, lt-ltb, le-ltb, eq-eqb, ne-eqb}
 use Rattle.host.proofs.Steps.{taken, sized-facts, sized-length, scene-stored}
 use borrow.Author.Needs.{needs}
 use Rattle.host.proofs.scenes.store.Statement.{statement}
 use Rattle.host.proofs.scenes.store.Tie as tie
-use Rattle.host.proofs.scenes.store.Reads as reads
-use Rattle.host.proofs.scenes.store.Lts as lts
-use Rattle.host.proofs.scenes.store_all.Reads as store-all-reads
-use Rattle.host.proofs.scenes.word_at.Reads as word-at-reads
 
 enum-told : tie.Need-enum-told
 enum-told c = search needs
 
--- src/scenes.rt:101:9
 enum-told-2 : tie.Need-enum-told-2
 enum-told-2 c = search needs
 
--- src/scenes.rt:101:9
 returns : tie.Need-returns
 returns c = search needs
 
--- src/scenes.rt:103:9
 word-at-requires : tie.Need-word-at-requires
 word-at-requires c κs = sized-facts _ (c .before .before .before .pre .1 (taken _ (c .enum-told .given .1)) .0) .0
 
--- src/scenes.rt:104:5
 store-all-requires : tie.Need-store-all-requires
 store-all-requires c κs = (
-      c .before .before .before .before .before .pre .0,
-      c .before .word-at .ensures .0,
-      sized-length _ _ (c .before .before .before .before .before .pre .1 (taken _ (c .before .before .enum-told .given .1)) .0) (c .before .word-at .ensures .0),
-      λ i h. c .before .before .before .before .before .pre .1 (taken _ (c .before .before .enum-told .given .1)) .1 i (omega (arith, c .before .word-at .ensures .0)),
-    )
+  c .before .before .before .before .before .pre .0,
+  c .before .word-at .ensures .0,
+  sized-length _ _ (c .before .before .before .before .before .pre .1 (taken _ (c .before .before .enum-told .given .1)) .0) (c .before .word-at .ensures .0),
+  λ i h. c .before .before .before .before .before .pre .1 (taken _ (c .before .before .enum-told .given .1)) .1 i (omega (arith, c .before .word-at .ensures .0)),
+)
 
--- src/scenes.rt:96:1
 returns-2 : tie.Need-returns-2
 returns-2 c = scene-stored _ _ _ _ _ (c .before .before .before .enum-told .given .1) (c .before .before .word-at .ensures .0) (c .store-all .ensures)
 

@@ -1,17 +1,13 @@
-use mathlib.Core.Path.{_≡_, refl, sym, ap, _∙_}
+-- `host::scenes::store_all` meets its contract.
+-- Assumes nothing.
+use mathlib.Core.Path.{_≡_, ap, _∙_}
 use native.Mathlib.Omega.{arith}
-use borrow.Author.Tests.{not-true, not-false, le-leb, lt-leb, lt-ltb, le-ltb, eq-eqb, ne-eqb}
-use borrow.Author.Needs.{needs}
 use Prim.Native.Nat.{_+_, _-_, _≤_}
 use lib.ListN.{length}
 use Rattle.host.specs.Record.{putScene, sceneDot}
 use Rattle.host.proofs.Steps.{scene-none, scene-more, put-level-length}
 use Rattle.host.proofs.scenes.store_all.Statement.{statement}
 use Rattle.host.proofs.scenes.store_all.Tie as tie
-use Rattle.host.proofs.scenes.store_all.Reads as reads
-use Rattle.host.proofs.scenes.store_all.Lts as lts
-use Rattle.host.proofs.scenes.word_at.Reads as word-at-reads
-use Rattle.host.proofs.store.level.Reads as level-reads
 
 abbrev Inv-loop : tie.InvT-loop
 Inv-loop settings₀ bytes n i₀ settings i = (i ≤ n) × (length settings ≡ 908) × (settings ≡ putScene bytes settings₀ i)
@@ -19,56 +15,43 @@ Inv-loop settings₀ bytes n i₀ settings i = (i ≤ n) × (length settings ≡
 abbrev μ-loop : tie.MeasureT-loop
 μ-loop settings₀ bytes n i₀ settings i = n - i
 
--- src/scenes.rt:89:5
 loop-holds : tie.Need-loop-holds Inv-loop μ-loop
 loop-holds c = (omega arith, c .before .pre .0, scene-none _ _)
 
--- src/scenes.rt:90:36
 add-word-at : tie.Need-add-word-at Inv-loop μ-loop
 add-word-at c = omega arith
 
--- src/scenes.rt:90:44
 mul-word-at : tie.Need-mul-word-at Inv-loop μ-loop
 mul-word-at c = omega arith
 
--- src/scenes.rt:90:36
 add-word-at-2 : tie.Need-add-word-at-2 Inv-loop μ-loop
 add-word-at-2 c = omega arith
 
--- src/scenes.rt:90:13
 word-at-requires : tie.Need-word-at-requires Inv-loop μ-loop
 word-at-requires c κs = omega arith
 
--- src/scenes.rt:91:38
 add-level : tie.Need-add-level Inv-loop μ-loop
 add-level c = omega arith
 
--- src/scenes.rt:91:32
 shared-slice-read-level : tie.Need-shared-slice-read-level Inv-loop μ-loop
 shared-slice-read-level c = omega arith
 
--- src/scenes.rt:91:32
 cast-level : tie.Need-cast-level Inv-loop μ-loop
 cast-level c = omega (arith, c .shared-slice-known2 .given (2 + c .before .before .before .before .loop .i))
 
--- src/scenes.rt:91:9
 level-requires : tie.Need-level-requires Inv-loop μ-loop
 unfolding sceneDot
 level-requires c κs = (c .before .before .before .before .loop .inv .1, c .before .before .before .before .before .before .pre .3 (c .before .before .before .before .loop .i) (omega arith))
 
--- src/scenes.rt:92:9
 add-i : tie.Need-add-i Inv-loop μ-loop
 add-i c = omega arith
 
--- src/scenes.rt:89:5
 loop-less : tie.Need-loop-less Inv-loop μ-loop
 loop-less c = omega arith
 
--- src/scenes.rt:89:5
 loop-again : tie.Need-loop-again Inv-loop μ-loop
 loop-again c = (omega arith, ap length (c .level .ensures) ∙ put-level-length _ _ _ ∙ c .before .before .before .before .before .loop .inv .1, scene-more _ _ _ _ _ _ _ (c .before .before .before .before .before .before .before .pre .1) (c .before .before .before .word-at .ensures .0) (c .before .before .before .before .before .loop .inv .2) (c .level .ensures))
 
--- src/scenes.rt:84:1
 returns : tie.Need-returns Inv-loop μ-loop
 returns c = let e : c .before .loop .i ≡ c .before .before .before .args .n = omega arith in rw e at (c .before .loop .inv .2)
 

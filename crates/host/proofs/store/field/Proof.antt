@@ -1,67 +1,48 @@
-use mathlib.Core.Path.{_≡_, refl, sym, ap, _∙_}
-use native.Mathlib.Omega.{arith}
-use borrow.Author.Tests.{not-true, not-false, le-leb, lt-leb, lt-ltb, le-ltb, eq-eqb, ne-eqb}
-use Rattle.map.specs.PlaceLaws.{field-inside}
+-- `host::store::field` meets its contract.
+-- Assumes nothing.
 use Rattle.host.proofs.Steps.{taken, no-place, at-place, field-asked, field-stored}
 use borrow.Author.Needs.{needs}
 use Rattle.host.proofs.store.field.Statement.{statement}
 use Rattle.host.proofs.store.field.Tie as tie
-use Rattle.host.proofs.store.field.Reads as reads
-use Rattle.host.proofs.store.field.Lts as lts
-use Rattle.host.proofs.store.put_bits.Reads as put-bits-reads
-use Rattle.map.proofs.place_of.Reads as place-of-reads
-use Rattle.map.proofs.width_of.Reads as width-of-reads
 
 enum-told : tie.Need-enum-told
 enum-told c = search needs
 
--- src/store.rt:113:9
 enum-told-2 : tie.Need-enum-told-2
 enum-told-2 c = search needs
 
--- src/store.rt:113:9
 returns : tie.Need-returns
 returns c = search needs
 
--- src/store.rt:115:9
 place-of-requires : tie.Need-place-of-requires
 place-of-requires c κs = search needs
 
--- src/store.rt:116:21
 enum-known-place : tie.Need-enum-known-place
 enum-known-place c = search needs
 
--- src/store.rt:117:9
 enum-told-3 : tie.Need-enum-told-3
 enum-told-3 c = search needs
 
--- src/store.rt:117:9
 returns-2 : tie.Need-returns-2
 returns-2 c = no-place _ _ _ _ _ _ _ _ (c .before .before .before .enum-told .given .1) (c .before .before .before .before .before .pre .2) (c .before .before .place-of .ensures) (c .enum-told3 .given .1)
 
--- src/store.rt:119:16
 element-copy-out-byte : tie.Need-element-copy-out-byte
 element-copy-out-byte c = at-place _ _ _ _ _ _ _ (c .before .before .before .before .before .before .pre .2 (taken _ (c .before .before .before .before .enum-told .given .1)) .0) (c .before .before .before .place-of .ensures) (c .before .place .given .1) .below
 
--- src/store.rt:120:47
 width-of-requires : tie.Need-width-of-requires
 width-of-requires c κs = search needs
 
--- src/store.rt:120:69
 cast-put-bits : tie.Need-cast-put-bits
 cast-put-bits c = search needs
 
--- src/store.rt:120:25
 put-bits-requires : tie.Need-put-bits-requires
 put-bits-requires c κs = field-asked _ _ _ _ _ _ _ (c .before .before .before .before .before .before .before .before .pre .1) (c .before .before .before .before .before .before .before .before .pre .2 (taken _ (c .before .before .before .before .before .before .enum-told .given .1)) .1) (c .width-of .ensures) (at-place _ _ _ _ _ _ _ (c .before .before .before .before .before .before .before .before .pre .2 (taken _ (c .before .before .before .before .before .before .enum-told .given .1)) .0) (c .before .before .before .before .before .place-of .ensures) (c .before .before .before .place .given .1))
 
--- src/store.rt:120:5
 element-write-settings : tie.Need-element-write-settings
 element-write-settings c = at-place _ _ _ _ _ _ _ (c .before .before .before .before .before .before .before .before .before .pre .2 (taken _ (c .before .before .before .before .before .before .before .enum-told .given .1)) .0) (c .before .before .before .before .before .before .place-of .ensures) (c .before .before .before .before .place .given .1) .below
 
--- src/store.rt:100:1
 returns-3 : tie.Need-returns-3
-returns-3 c = 
+returns-3 c =
     field-stored _ _ _ _ _ _ _ _ _ _ (c .before .before .before .before .before .before .before .enum-told .given .1) (c .before .before .before .before .before .before .before .before .before .pre .1) (c .before .before .before .before .before .before .before .before .before .pre .2 (taken _ (c .before .before .before .before .before .before .before .enum-told .given .1)) .1)
     (at-place _ _ _ _ _ _ _ (c .before .before .before .before .before .before .before .before .before .pre .2 (taken _ (c .before .before .before .before .before .before .before .enum-told .given .1)) .0) (c .before .before .before .before .before .before .place-of .ensures) (c .before .before .before .before .place .given .1)) (c .before .width-of .ensures)
     (c .put-bits .ensures)

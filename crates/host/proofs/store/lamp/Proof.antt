@@ -1,38 +1,29 @@
-use mathlib.Core.Path.{_≡_, refl, sym, ap, _∙_}
+-- `host::store::lamp` meets its contract.
+-- Assumes nothing.
 use native.Mathlib.Omega.{arith}
-use borrow.Author.Tests.{not-true, not-false, le-leb, lt-leb, lt-ltb, le-ltb, eq-eqb, ne-eqb}
 use Rattle.host.proofs.Steps.{taken}
 use borrow.Author.Needs.{needs}
 use Rattle.host.proofs.store.lamp.Statement.{statement}
 use Rattle.host.proofs.store.lamp.Tie as tie
-use Rattle.host.proofs.store.lamp.Reads as reads
-use Rattle.host.proofs.store.lamp.Lts as lts
-use Rattle.host.proofs.store.level.Reads as level-reads
 
 enum-told : tie.Need-enum-told
 enum-told c = search needs
 
--- src/store.rt:67:9
 enum-told-2 : tie.Need-enum-told-2
 enum-told-2 c = search needs
 
--- src/store.rt:67:9
 returns : tie.Need-returns
 returns c = search needs
 
--- src/store.rt:69:21
 mul-level : tie.Need-mul-level
 mul-level c = omega (arith, c .before .before .before .pre .1 (taken _ (c .before .enum-told .given .1)) .0)
 
--- src/store.rt:69:21
 add-level : tie.Need-add-level
 add-level c = omega (arith, c .before .before .before .pre .1 (taken _ (c .before .enum-told .given .1)) .0, c .before .before .before .pre .1 (taken _ (c .before .enum-told .given .1)) .1)
 
--- src/store.rt:69:5
 level-requires : tie.Need-level-requires
 level-requires c κs = (c .before .before .before .pre .0, omega (arith, c .before .before .before .pre .1 (taken _ (c .before .enum-told .given .1)) .0, c .before .before .before .pre .1 (taken _ (c .before .enum-told .given .1)) .1))
 
--- src/store.rt:62:1
 returns-2 : tie.Need-returns-2
 returns-2 c = rw (taken _ (c .before .before .enum-told .given .1)) (c .level .ensures)
 

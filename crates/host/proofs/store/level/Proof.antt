@@ -1,72 +1,54 @@
-use mathlib.Core.Path.{_≡_, refl, sym, ap, _∙_}
-use native.Mathlib.Omega.{arith}
-use borrow.Author.Tests.{not-true, not-false, le-leb, lt-leb, lt-ltb, le-ltb, eq-eqb, ne-eqb}
+-- `host::store::level` meets its contract.
+-- Assumes nothing.
 use Rattle.host.specs.Record.{putLevel}
 use Rattle.host.proofs.Steps.{narrow, wide}
 use borrow.Author.Needs.{needs}
 use Rattle.host.proofs.store.level.Statement.{statement}
 use Rattle.host.proofs.store.level.Tie as tie
-use Rattle.host.proofs.store.level.Reads as reads
-use Rattle.host.proofs.store.level.Lts as lts
 
--- src/store.rt:54:8
 element-copy-out-if1 : tie.Need-element-copy-out-if1
 element-copy-out-if1 c = search needs
 
--- src/store.rt:55:36
 cast-settings : tie.Need-cast-settings
 cast-settings c = search needs
 
--- src/store.rt:55:18
 add-settings : tie.Need-add-settings
 add-settings c = search needs
 
--- src/store.rt:55:9
 element-write-settings : tie.Need-element-write-settings
 element-write-settings c = search needs
 
--- src/store.rt:56:9
 returns : tie.Need-returns
 unfolding putLevel
 returns c = simp (narrow (c .before .before .args .settings .now) (c .if1 .taken))
 
--- src/store.rt:58:36
 cast-settings-2 : tie.Need-cast-settings-2
 cast-settings-2 c = search needs
 
--- src/store.rt:58:22
 mul-settings : tie.Need-mul-settings
 mul-settings c = search needs
 
--- src/store.rt:58:14
 add-settings-2 : tie.Need-add-settings-2
 add-settings-2 c = search needs
 
--- src/store.rt:58:5
 element-write-settings-2 : tie.Need-element-write-settings-2
 element-write-settings-2 c = search needs
 
--- src/store.rt:59:40
 cast-settings-3 : tie.Need-cast-settings-3
 cast-settings-3 c = search needs
 
--- src/store.rt:59:22
 mul-settings-2 : tie.Need-mul-settings-2
 mul-settings-2 c = search needs
 
--- src/store.rt:59:14
 add-settings-3 : tie.Need-add-settings-3
 add-settings-3 c = search needs
 
--- src/store.rt:59:14
 add-settings-4 : tie.Need-add-settings-4
 add-settings-4 c = search needs
 
--- src/store.rt:59:5
 element-write-settings-3 : tie.Need-element-write-settings-3
 element-write-settings-3 c = search needs
 
--- src/store.rt:50:1
 returns-2 : tie.Need-returns-2
 unfolding putLevel
 returns-2 c = simp (wide (c .before .before .args .settings .now) (c .if1 .left))

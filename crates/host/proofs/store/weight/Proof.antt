@@ -1,42 +1,31 @@
-use mathlib.Core.Path.{_≡_, refl, sym, ap, _∙_}
+-- `host::store::weight` meets its contract.
+-- Assumes nothing.
 use native.Mathlib.Omega.{arith}
-use borrow.Author.Tests.{not-true, not-false, le-leb, lt-leb, lt-ltb, le-ltb, eq-eqb, ne-eqb}
-use Prim.Native.Nat.{_^_}
 use Rattle.host.proofs.Steps.{weight-is, is-seven}
 use Rattle.host.proofs.store.weight.Statement.{statement}
 use Rattle.host.proofs.store.weight.Tie as tie
-use Rattle.host.proofs.store.weight.Reads as reads
-use Rattle.host.proofs.store.weight.Lts as lts
 
--- src/store.rt:73:1
 returns : tie.Need-returns
 returns c = (weight-is 0 _ (c .match .keys1), omega arith)
 
--- src/store.rt:73:1
 returns-2 : tie.Need-returns-2
 returns-2 c = (weight-is 1 _ (c .match .keys2), omega arith)
 
--- src/store.rt:73:1
 returns-3 : tie.Need-returns-3
 returns-3 c = (weight-is 2 _ (c .match .keys3), omega arith)
 
--- src/store.rt:73:1
 returns-4 : tie.Need-returns-4
 returns-4 c = (weight-is 3 _ (c .match .keys4), omega arith)
 
--- src/store.rt:73:1
 returns-5 : tie.Need-returns-5
 returns-5 c = (weight-is 4 _ (c .match .keys5), omega arith)
 
--- src/store.rt:73:1
 returns-6 : tie.Need-returns-6
 returns-6 c = (weight-is 5 _ (c .match .keys6), omega arith)
 
--- src/store.rt:73:1
 returns-7 : tie.Need-returns-7
 returns-7 c = (weight-is 6 _ (c .match .keys7), omega arith)
 
--- src/store.rt:73:1
 returns-8 : tie.Need-returns-8
 returns-8 c = (weight-is 7 _ (is-seven _ (c .before .pre) (c .match .rest .0 .0 .0 .0 .0 .0 .1) (c .match .rest .0 .0 .0 .0 .0 .1) (c .match .rest .0 .0 .0 .0 .1) (c .match .rest .0 .0 .0 .1) (c .match .rest .0 .0 .1) (c .match .rest .0 .1) (c .match .rest .1)), omega arith)
 

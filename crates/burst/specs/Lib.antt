@@ -1,0 +1,3 @@
+pub mod Burst
+pub mod BurstLaws
+pub mod BurstExamples

@@ -1,0 +1,116 @@
+-- What the calls change and what they leave: settings take exactly what their call puts there, and are read back.
+-- Assumes nothing.
+use mathlib.Core.Path.{_≡_, refl, ap, _∙_}
+use mathlib.Core.Bool.{Bool, true, false, cond}
+use mathlib.Core.List.{List}
+use Prim.Native.Nat.{ℕ, _+_, _*_, _/_, _%_, _^_, _<_, _≤_}
+use native.Mathlib.Omega.{arith}
+use lib.ListN.{length, getD, set, length-set}
+use lib.Seq.{getD-set-same, getD-set-other}
+use Rattle.map.specs.declared.refusals.Answer.{Answer}
+use Rattle.map.specs.declared.dots.Field.{Field}
+use Rattle.map.specs.declared.dots.Field.the-variants.{Group, Switch}
+use Rattle.map.specs.Refusals.{accepted}
+use Rattle.map.specs.Map.{dotNumber, addressOf, shiftOf, widthOf, dataMode, isWide}
+use Rattle.map.specs.Images.{resetImage}
+use Rattle.host.specs.declared.Record.{Record}
+use Rattle.host.specs.declared.Changed.{Changed}
+use Rattle.host.specs.Record.{recordOf, settled, registerAnswer, registerOf, wideOf, topLevel, lampAnswer, putLevel, lampOf, fieldAnswer, putField, groupOf, switchOf, sceneCount, putScene, sceneAnswer, sceneOf, soundAnswer, powerLostOf}
+use Rattle.host.specs.Reads.{levelOf, fieldOf}
+use Rattle.host.specs.BitLaws.{put-read}
+
+-- ---- a setting changes the settings alone
+
+-- the record that a setting gives back: the answer decides between the new settings and the old, and the rest is untouched
+pub record Sets (r : Record) (answer : Answer) (new : List ℕ) (x : Changed) : Type 0 where
+  pub answered : x .answer ≡ answer
+  pub accepts : accepted answer ≡ true → x .state ≡ recordOf (r .member) (r .bus) (r .pins) new (r .image)
+  pub refuses : accepted answer ≡ false → x .state ≡ r
+
+settled-sets : (r : Record) (answer : Answer) (new : List ℕ) → Sets r answer new (settled r answer new)
+unfolding settled
+settled-sets r answer new = record { answered = refl; accepts = λ e. rw e refl; refuses = λ e. rw e refl }
+
+module _ (r : Record) where
+  pub register-sets : (a v : ℕ) → Sets r (registerAnswer r a v) (set (r .settings) a v) (registerOf r a v)
+  unfolding registerOf
+  register-sets a v = settled-sets r (registerAnswer r a v) (set (r .settings) a v)
+
+  pub lamp-sets : (l s v : ℕ) → Sets r (lampAnswer r l s v) (putLevel (r .settings) (dotNumber l s) v) (lampOf r l s v)
+  unfolding lampOf
+  lamp-sets l s v = settled-sets r (lampAnswer r l s v) (putLevel (r .settings) (dotNumber l s) v)
+
+  pub group-sets : (l s g : ℕ) → Sets r (fieldAnswer r l s g 3) (putField Group (r .settings) l s g) (groupOf r l s g)
+  unfolding groupOf
+  group-sets l s g = settled-sets r (fieldAnswer r l s g 3) (putField Group (r .settings) l s g)
+
+  pub switch-sets : (l s x : ℕ) → Sets r (fieldAnswer r l s x 1) (putField Switch (r .settings) l s x) (switchOf r l s x)
+  unfolding switchOf
+  switch-sets l s x = settled-sets r (fieldAnswer r l s x 1) (putField Switch (r .settings) l s x)
+
+  pub scene-sets : (bytes : List ℕ) → Sets r (sceneAnswer r bytes) (putScene bytes (r .settings) (sceneCount bytes)) (sceneOf r bytes)
+  unfolding sceneOf
+  scene-sets bytes = settled-sets r (sceneAnswer r bytes) (putScene bytes (r .settings) (sceneCount bytes))
+
+  -- Power lost: "the chip image has reset values and the settings are kept"
+  pub power-loses : accepted (soundAnswer r) ≡ true → powerLostOf r .state ≡ recordOf (r .member) (r .bus) (r .pins) (r .settings) (resetImage (r .member))
+  unfolding powerLostOf
+  power-loses e = rw e refl
+
+  pub power-refuses : accepted (soundAnswer r) ≡ false → powerLostOf r .state ≡ r
+  unfolding powerLostOf
+  power-refuses e = rw e refl
+
+-- ---- what is put is read back
+
+-- a level moves no other register than its PWM bytes, so the data mode stays
+pub level-elsewhere : (image : List ℕ) (d v a : ℕ) → a < 0x200 → getD (putLevel image d v) a 0 ≡ getD image a 0
+unfolding putLevel
+level-elsewhere image d v a h = go (wideOf image)
+  where
+    go : (b : Bool) → getD (cond b (set (set image (0x200 + 2 * d) (v % 256)) (0x200 + 2 * d + 1) (v / 256 % 256)) (set image (0x200 + d) (v % 256))) a 0 ≡ getD image a 0
+    go true =
+        getD-set-other (set image (0x200 + 2 * d) (v % 256)) (0x200 + 2 * d + 1) a (v / 256 % 256) 0 (λ e. omega arith)
+        ∙ getD-set-other image (0x200 + 2 * d) a (v % 256) 0 (λ e. omega arith)
+    go false = getD-set-other image (0x200 + d) a (v % 256) 0 (λ e. omega arith)
+
+pub level-mode : (image : List ℕ) (d v : ℕ) → wideOf (putLevel image d v) ≡ wideOf image
+unfolding wideOf
+level-mode image d v = ap (λ (x : ℕ). isWide (dataMode x)) (level-elsewhere image d v 0x001 (omega arith))
+
+pub level-wide : (image : List ℕ) (d v : ℕ) → wideOf image ≡ true →
+    putLevel image d v ≡ set (set image (0x200 + 2 * d) (v % 256)) (0x200 + 2 * d + 1) (v / 256 % 256)
+unfolding putLevel
+level-wide image d v e = rw e refl
+
+pub level-narrow : (image : List ℕ) (d v : ℕ) → wideOf image ≡ false → putLevel image d v ≡ set image (0x200 + d) (v % 256)
+unfolding putLevel
+level-narrow image d v e = rw e refl
+
+pub lamp-reads-back : (image : List ℕ) (d v : ℕ) → length image ≡ 908 → d < 198 → v ≤ topLevel image → levelOf (putLevel image d v) d ≡ v
+unfolding levelOf topLevel
+lamp-reads-back image d v size hd hv = rw (level-mode image d v) (go (wideOf image) refl hv)
+  where
+    two-bytes : (v : ℕ) → v ≤ 65535 → v % 256 + 256 * (v / 256 % 256) ≡ v
+    two-bytes v h = omega arith
+
+    one-byte : (v : ℕ) → v ≤ 255 → v % 256 ≡ v
+    one-byte v h = omega arith
+
+    go : (b : Bool) → wideOf image ≡ b → v ≤ cond b 65535 255 →
+        cond b (getD (putLevel image d v) (0x200 + 2 * d) 0 + 256 * getD (putLevel image d v) (0x200 + 2 * d + 1) 0) (getD (putLevel image d v) (0x200 + d) 0) ≡ v
+    go true e h =
+        let first : List ℕ = set image (0x200 + 2 * d) (v % 256) in
+        rw (
+          level-wide image d v e,
+          getD-set-other first (0x200 + 2 * d + 1) (0x200 + 2 * d) (v / 256 % 256) 0 (λ q. omega arith),
+          getD-set-same image (0x200 + 2 * d) (v % 256) 0 (omega arith),
+          getD-set-same first (0x200 + 2 * d + 1) (v / 256 % 256) 0 (omega (arith, length-set image (0x200 + 2 * d) (v % 256))),
+        ) (two-bytes v h)
+    go false e h = rw (level-narrow image d v e, getD-set-same image (0x200 + d) (v % 256) 0 (omega arith)) (one-byte v h)
+
+pub field-reads-back : (f : Field) (image : List ℕ) (l s v : ℕ) → addressOf f l s < length image → v < 2 ^ widthOf f → fieldOf f (putField f image l s v) l s ≡ v
+unfolding fieldOf putField
+field-reads-back f image l s v h hv =
+    ap (λ (x : ℕ). x / 2 ^ shiftOf f s % 2 ^ widthOf f) (getD-set-same image (addressOf f l s) _ 0 h)
+    ∙ put-read (shiftOf f s) (widthOf f) (getD image (addressOf f l s) 0) v hv

@@ -1,0 +1,15 @@
+pub mod Lists
+pub mod Plan
+pub mod Writes
+pub mod Weight
+pub mod PlanLaws
+pub mod ScanLaws
+pub mod Cheapest
+pub mod Update
+pub mod PlanExamples
+pub mod UpdateLaws
+pub mod Machine
+pub mod Heard
+pub mod Follow
+pub mod MachineLaws
+pub mod Masked
