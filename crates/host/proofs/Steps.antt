@@ -21,6 +21,7 @@ use Rattle.host.specs.Numbered.{Numbered}
 use Rattle.map.specs.declared.refusals.Answer.{Answer}
 use Rattle.map.specs.declared.refusals.Answer.the-variants.{Accepted, Refused}
 use Rattle.map.specs.declared.refusals.Refusal.{Refusal}
+use Rattle.map.specs.declared.refusals.Refusal.the-variants.{Level, GroupOrState}
 use Rattle.map.specs.Refusals.{accepted, openAnswer, opens}
 use Rattle.map.specs.Map.{linesOf, columnsOf, dotIn, numberIn, dataMode, isWide, reservedOf, resetOf, isDot, addressOf, shiftOf, widthOf, placeAs, placeOf}
 use Rattle.map.specs.MapLaws.{lines-most, dot-line, dot-sink}
@@ -31,9 +32,9 @@ use Rattle.map.specs.RefusalLaws.{opens-member, opens-bus, opens-pins}
 use Rattle.map.specs.ByteLaws.{writable-below}
 use Rattle.host.specs.declared.Record.{Record}
 use Rattle.host.specs.declared.Changed.{Changed}
-use Rattle.host.specs.RecordLaws.{register-taken, lamp-taken, field-taken, scene-taken}
+use Rattle.host.specs.RecordLaws.{when-dot-refused, when-dot-accepted, register-taken, lamp-taken, field-taken, scene-taken}
 use Rattle.map.specs.ImageLaws.{ok-masked}
-use Rattle.host.specs.Record.{recordOf, soundOf, wideOf, topLevel, opened, openState, openOf, soundAnswer, registerAnswer, lampAnswer, fieldAnswer, sceneAnswer, powerLostOf, putBits, putField, putLevel, wordAt, sceneCount, sceneDot, sceneLevel, sceneHasDot, sceneFits, sceneSized, putScene}
+use Rattle.host.specs.Record.{whenDot, recordOf, soundOf, wideOf, topLevel, opened, openState, openOf, soundAnswer, registerAnswer, lampAnswer, fieldAnswer, sceneAnswer, powerLostOf, putBits, putField, putLevel, wordAt, sceneCount, sceneDot, sceneLevel, sceneHasDot, sceneFits, sceneSized, putScene}
 
 -- ---- soundness
 
@@ -86,11 +87,43 @@ pub top-wide : (settings : List ℕ) → 2 ≤ getD settings 1 0 / 2 % 4 → top
 unfolding topLevel
 top-wide settings h = rw (wide settings h) refl
 
-pub above-top : (settings : List ℕ) (top v : ℕ) → top ≡ topLevel settings → top < v → leb v (topLevel settings) ≡ false
+above-top : (settings : List ℕ) (top v : ℕ) → top ≡ topLevel settings → top < v → leb v (topLevel settings) ≡ false
 above-top settings top v e h = lt-leb v (topLevel settings) (subst (λ (x : ℕ). x < v) e h)
 
-pub within-top : (settings : List ℕ) (top v : ℕ) → top ≡ topLevel settings → v ≤ top → leb v (topLevel settings) ≡ true
+within-top : (settings : List ℕ) (top v : ℕ) → top ≡ topLevel settings → v ≤ top → leb v (topLevel settings) ≡ true
 within-top settings top v e h = le-leb v (topLevel settings) (subst (λ (x : ℕ). v ≤ x) e h)
+
+-- ---- the test of record and dot
+
+pub dot-refuses : (r : Record) (l s : ℕ) (x : Refusal) (answer a : Answer) → answer ≡ whenDot r l s Accepted → answer ≡ Refused x →
+    answer ≡ whenDot r l s a
+dot-refuses r l s x answer a e n = n ∙ sym (when-dot-refused r l s x a (sym e ∙ n))
+
+module _ (r : Record) (l s v : ℕ) where
+  dot-leaves : (answer a : Answer) → answer ≡ whenDot r l s Accepted → answer ≡ Accepted → whenDot r l s a ≡ a
+  dot-leaves answer a e n = when-dot-accepted r l s a (sym e ∙ n)
+
+  pub field-above : (top : ℕ) (answer : Answer) → answer ≡ whenDot r l s Accepted → answer ≡ Accepted → top < v →
+      Refused GroupOrState ≡ fieldAnswer r l s v top
+  unfolding fieldAnswer
+  field-above top answer e n h = sym (dot-leaves answer (cond (leb v top) Accepted (Refused GroupOrState)) e n ∙ rw (lt-leb v top h) refl)
+
+  pub field-within : (top : ℕ) (answer : Answer) → answer ≡ whenDot r l s Accepted → answer ≡ Accepted → v ≤ top →
+      Accepted ≡ fieldAnswer r l s v top
+  unfolding fieldAnswer
+  field-within top answer e n h = sym (dot-leaves answer (cond (leb v top) Accepted (Refused GroupOrState)) e n ∙ rw (le-leb v top h) refl)
+
+  pub lamp-above : (top : ℕ) (answer : Answer) → answer ≡ whenDot r l s Accepted → answer ≡ Accepted → top ≡ topLevel (r .settings) → top < v →
+      Refused Level ≡ lampAnswer r l s v
+  unfolding lampAnswer
+  lamp-above top answer e n t h =
+      sym (dot-leaves answer (cond (leb v (topLevel (r .settings))) Accepted (Refused Level)) e n ∙ rw (above-top (r .settings) top v t h) refl)
+
+  pub lamp-within : (top : ℕ) (answer : Answer) → answer ≡ whenDot r l s Accepted → answer ≡ Accepted → top ≡ topLevel (r .settings) → v ≤ top →
+      Accepted ≡ lampAnswer r l s v
+  unfolding lampAnswer
+  lamp-within top answer e n t h =
+      sym (dot-leaves answer (cond (leb v (topLevel (r .settings))) Accepted (Refused Level)) e n ∙ rw (within-top (r .settings) top v t h) refl)
 
 -- ---- an answer that was taken apart
 

@@ -6,3 +6,4 @@ pub mod RecordLaws
 pub mod SoundLaws
 pub mod SettingLaws
 pub mod SceneLaws
+pub mod RecordExamples

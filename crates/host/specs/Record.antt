@@ -76,13 +76,13 @@ wideOf image = isWide (dataMode (getD image 0x001 0))
 unfoldable pub topLevel : List ℕ → ℕ
 topLevel image = cond (wideOf image) 65535 255
 
--- "6: no such dot. 7: level above" it
+-- "6: no such dot."
+unfoldable pub whenDot : Record → ℕ → ℕ → Answer → Answer
+whenDot r l s answer = whenSound r (cond (isDot (r .member) l s) answer (Refused NoDot))
+
+-- "7: level above" the largest
 unfoldable pub lampAnswer : Record → ℕ → ℕ → ℕ → Answer
-lampAnswer r l s v =
-    whenSound r
-    (cond (isDot (r .member) l s)
-    (cond (leb v (topLevel (r .settings))) Accepted (Refused Level))
-    (Refused NoDot))
+lampAnswer r l s v = whenDot r l s (cond (leb v (topLevel (r .settings))) Accepted (Refused Level))
 
 -- "8 bits at 200h + d", "16 bits at 200h + 2 × d, low byte first"
 unfoldable pub putLevel : List ℕ → ℕ → ℕ → List ℕ
@@ -98,11 +98,7 @@ lampOf r l s v = settled r (lampAnswer r l s v) (putLevel (r .settings) (dotNumb
 
 -- "6: no such dot. 8: group above 3, state above 1."
 unfoldable pub fieldAnswer : Record → ℕ → ℕ → ℕ → ℕ → Answer
-fieldAnswer r l s v top =
-    whenSound r
-    (cond (isDot (r .member) l s)
-    (cond (leb v top) Accepted (Refused GroupOrState))
-    (Refused NoDot))
+fieldAnswer r l s v top = whenDot r l s (cond (leb v top) Accepted (Refused GroupOrState))
 
 -- a byte with v in the w bits from bit p up: the bits above, v, the bits below. "Other bits of the byte stay."
 unfoldable pub putBits : ℕ → ℕ → ℕ → ℕ → ℕ

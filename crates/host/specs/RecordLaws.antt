@@ -1,7 +1,7 @@
 -- What follows from an accepted answer, and the records that the calls return.
 -- Assumes nothing.
-use mathlib.Core.Path.{_≡_, refl}
-use mathlib.Core.Bool.{Bool, true, false, cond, false≢true}
+use mathlib.Core.Path.{_≡_, refl, ap}
+use mathlib.Core.Bool.{Bool, true, false, cond, false≢true, true≢false}
 use mathlib.Core.List.{List}
 use Prim.Native.Nat.{ℕ, _≤_}
 use borrow.Author.Tests.{leb-true}
@@ -16,7 +16,7 @@ use Rattle.map.specs.Images.{okByte}
 use Rattle.map.specs.Lists.{allFrom}
 use Rattle.host.specs.declared.Record.{Record}
 use Rattle.host.specs.declared.Changed.{Changed}
-use Rattle.host.specs.Record.{recordOf, soundOf, whenSound, settled, topLevel, registerAnswer, lampAnswer, fieldAnswer, sceneCount, sceneSized, sceneHasDot, sceneFits, sceneAnswer}
+use Rattle.host.specs.Record.{recordOf, soundOf, whenSound, whenDot, settled, topLevel, registerAnswer, lampAnswer, fieldAnswer, sceneCount, sceneSized, sceneHasDot, sceneFits, sceneAnswer}
 
 -- a choice between an answer and a refusal was accepted: so the test passed, and the answer was accepted
 pub passed : (b : Bool) (a : Answer) (x : Refusal) → accepted (cond b a (Refused x)) ≡ true → (b ≡ true) × (accepted a ≡ true)
@@ -42,7 +42,7 @@ module _ (r : Record) where
     pub fits : v ≤ topLevel (r .settings)
 
   pub lamp-taken : (l s v : ℕ) → accepted (lampAnswer r l s v) ≡ true → LampTaken l s v
-  unfolding lampAnswer whenSound
+  unfolding lampAnswer whenDot whenSound
   lamp-taken l s v e =
       let p = passed (soundOf r) _ Unsound e in
       let d = passed (isDot (r .member) l s) _ NoDot (p .1) in
@@ -54,7 +54,7 @@ module _ (r : Record) where
     pub fits : v ≤ top
 
   pub field-taken : (l s v top : ℕ) → accepted (fieldAnswer r l s v top) ≡ true → FieldTaken l s v top
-  unfolding fieldAnswer whenSound
+  unfolding fieldAnswer whenDot whenSound
   field-taken l s v top e =
       let p = passed (soundOf r) _ Unsound e in
       let d = passed (isDot (r .member) l s) _ NoDot (p .1) in
@@ -78,6 +78,27 @@ module _ (r : Record) where
         dots = d .0;
         fits = passed (allFrom (sceneFits (topLevel (r .settings)) bytes) 0 (sceneCount bytes)) Accepted Level (d .1) .0;
       }
+
+  -- the test of record and dot alone decides, or leaves the rest to decide
+  pub when-dot-refused : (l s : ℕ) (x : Refusal) (answer : Answer) → whenDot r l s Accepted ≡ Refused x → whenDot r l s answer ≡ Refused x
+  unfolding whenDot whenSound
+  when-dot-refused l s x answer e = go (soundOf r) (isDot (r .member) l s) e
+    where
+      go : (a b : Bool) → cond a (cond b Accepted (Refused NoDot)) (Refused Unsound) ≡ Refused x →
+          cond a (cond b answer (Refused NoDot)) (Refused Unsound) ≡ Refused x
+      go true true q = absurd (true≢false (ap accepted q))
+      go true false q = q
+      go false b q = q
+
+  pub when-dot-accepted : (l s : ℕ) (answer : Answer) → whenDot r l s Accepted ≡ Accepted → whenDot r l s answer ≡ answer
+  unfolding whenDot whenSound
+  when-dot-accepted l s answer e = go (soundOf r) (isDot (r .member) l s) e
+    where
+      go : (a b : Bool) → cond a (cond b Accepted (Refused NoDot)) (Refused Unsound) ≡ Accepted →
+          cond a (cond b answer (Refused NoDot)) (Refused Unsound) ≡ answer
+      go true true q = refl
+      go true false q = absurd (false≢true (ap accepted q))
+      go false b q = absurd (false≢true (ap accepted q))
 
   -- a record that was put together from an answer and new settings
   pub settled-is : (answer x : Answer) (settings new : List ℕ) → answer ≡ x → settings ≡ cond (accepted answer) new (r .settings) →

@@ -9,7 +9,7 @@ use Rattle.map.specs.Refusals.{accepted}
 use Rattle.map.specs.Map.{isDot, numberIn}
 use Rattle.map.specs.ListLaws.{all-at}
 use Rattle.host.specs.declared.Record.{Record}
-use Rattle.host.specs.Record.{recordOf, soundOf, whenSound, topLevel, lampAnswer, putLevel, lampOf, sceneCount, sceneDot, sceneLevel, sceneHasDot, sceneFits, putScene, sceneAnswer, sceneOf}
+use Rattle.host.specs.Record.{recordOf, soundOf, whenSound, whenDot, topLevel, lampAnswer, putLevel, lampOf, sceneCount, sceneDot, sceneLevel, sceneHasDot, sceneFits, putScene, sceneAnswer, sceneOf}
 use Rattle.host.specs.RecordLaws.{SceneTaken, scene-taken}
 use Rattle.host.specs.SoundLaws.{Sound, sound-is, is-sound, scene-image}
 use Rattle.host.specs.SettingLaws.{lamp-sets, scene-sets, level-mode}
@@ -44,7 +44,7 @@ module _ (r : Record) (bytes : List ℕ) (t : accepted (sceneAnswer r bytes) ≡
       is-sound (part k) (record { opened = s .opened; settings = scene-image (r .member) (r .settings) bytes (sceneCount bytes) (s .settings) (taken .dots) k h; image = s .image })
 
   entry-taken : (k : ℕ) → k < sceneCount bytes → accepted (lampAnswer (part k) (sceneDot bytes k / 18) (sceneDot bytes k % 18) (sceneLevel bytes k)) ≡ true
-  unfolding lampAnswer whenSound sceneHasDot sceneFits numberIn isDot
+  unfolding lampAnswer whenDot whenSound sceneHasDot sceneFits numberIn isDot
   entry-taken k h =
       rw (
         part-sound k (omega arith),

@@ -1,6 +1,7 @@
 // What each setting answers: the refusals in the order that the calls check them.
 ghost use mathlib.Core.Path.{_≡_};
-ghost use Rattle.host.specs.Record.{recordOf, soundOf, soundAnswer, registerAnswer, topLevel, lampAnswer, fieldAnswer};
+ghost use Rattle.host.specs.Record.{recordOf, soundOf, soundAnswer, registerAnswer, topLevel, whenDot, lampAnswer, fieldAnswer};
+ghost use Rattle.map.specs.declared.refusals.Answer.the-variants.{Accepted};
 ghost use Rattle.map.specs.Images.{okByte};
 use map::Answer;
 use map::Refusal;
@@ -75,6 +76,27 @@ pub(crate) fn top_level(settings: &[u8]) -> usize
     if settings[1] / 2 % 4 < 2 { 255 } else { 65535 }
 }
 
+// A sound record and a dot that its member has.
+fn dot<'a>(
+    member: u8,
+    bus: u8,
+    pins: u8,
+    settings: &'a [u8],
+    image: &'a [u8],
+    line: usize,
+    sink: usize,
+) -> Answer
+    ensures { λ r. ⌜ r ≡ whenDot (recordOf member bus pins (now (settings .entry)) (now (image .entry))) line sink Accepted ⌝ }
+{
+    if !sound(member, bus, pins, settings, image) {
+        return Answer::Refused(Refusal::Unsound);
+    }
+    if !map::is_dot(member as usize, line, sink) {
+        return Answer::Refused(Refusal::NoDot);
+    }
+    Answer::Accepted
+}
+
 pub(crate) fn lamp<'a>(
     member: u8,
     bus: u8,
@@ -87,12 +109,10 @@ pub(crate) fn lamp<'a>(
 ) -> Answer
     ensures { λ r. ⌜ r ≡ lampAnswer (recordOf member bus pins (now (settings .entry)) (now (image .entry))) line sink level ⌝ }
 {
-    if !sound(member, bus, pins, settings, image) {
-        return Answer::Refused(Refusal::Unsound);
-    }
-    if !map::is_dot(member as usize, line, sink) {
-        return Answer::Refused(Refusal::NoDot);
-    }
+    let answer = dot(member, bus, pins, settings, image, line, sink);
+    let Answer::Accepted = answer else {
+        return answer;
+    };
     if top_level(settings) < level {
         return Answer::Refused(Refusal::Level);
     }
@@ -113,12 +133,10 @@ pub(crate) fn field<'a>(
 ) -> Answer
     ensures { λ r. ⌜ r ≡ fieldAnswer (recordOf member bus pins (now (settings .entry)) (now (image .entry))) line sink value top ⌝ }
 {
-    if !sound(member, bus, pins, settings, image) {
-        return Answer::Refused(Refusal::Unsound);
-    }
-    if !map::is_dot(member as usize, line, sink) {
-        return Answer::Refused(Refusal::NoDot);
-    }
+    let answer = dot(member, bus, pins, settings, image, line, sink);
+    let Answer::Accepted = answer else {
+        return answer;
+    };
     if top < value {
         return Answer::Refused(Refusal::GroupOrState);
     }

@@ -85,11 +85,11 @@ fn store_all(settings: &mut [u8; 908], bytes: &[u8], n: usize)
     requires { ⌜ (length (now settings) ≡ 908) × (n ≡ sceneCount (now bytes)) × (length (now bytes) ≡ 2 + 3 * n) × Numbered (now bytes) n ⌝ }
     ensures { λ _. ⌜ now (settings .exit) ≡ putScene (now (bytes .entry)) (now (settings .entry)) n ⌝ }
 {
-    let mut i: usize = 0;
-    while i < n {
-        let level = word_at(bytes, 2 + n + 2 * i);
-        store::level(settings, bytes[2 + i] as usize, level);
-        i += 1;
+    let mut entry: usize = 0;
+    while entry < n {
+        let level = word_at(bytes, 2 + n + 2 * entry);
+        store::level(settings, bytes[2 + entry] as usize, level);
+        entry += 1;
     }
 }
 

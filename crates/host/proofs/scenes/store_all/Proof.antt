@@ -10,10 +10,10 @@ use Rattle.host.proofs.scenes.store_all.Statement.{statement}
 use Rattle.host.proofs.scenes.store_all.Tie as tie
 
 abbrev Inv-loop : tie.InvT-loop
-Inv-loop settings₀ bytes n i₀ settings i = (i ≤ n) × (length settings ≡ 908) × (settings ≡ putScene bytes settings₀ i)
+Inv-loop settings₀ bytes n entry₀ settings entry = (entry ≤ n) × (length settings ≡ 908) × (settings ≡ putScene bytes settings₀ entry)
 
 abbrev μ-loop : tie.MeasureT-loop
-μ-loop settings₀ bytes n i₀ settings i = n - i
+μ-loop settings₀ bytes n entry₀ settings entry = n - entry
 
 loop-holds : tie.Need-loop-holds Inv-loop μ-loop
 loop-holds c = (omega arith, c .before .pre .0, scene-none _ _)
@@ -37,14 +37,14 @@ shared-slice-read-level : tie.Need-shared-slice-read-level Inv-loop μ-loop
 shared-slice-read-level c = omega arith
 
 cast-level : tie.Need-cast-level Inv-loop μ-loop
-cast-level c = omega (arith, c .shared-slice-known2 .given (2 + c .before .before .before .before .loop .i))
+cast-level c = omega (arith, c .shared-slice-known2 .given (2 + c .before .before .before .before .loop .entry))
 
 level-requires : tie.Need-level-requires Inv-loop μ-loop
 unfolding sceneDot
-level-requires c κs = (c .before .before .before .before .loop .inv .1, c .before .before .before .before .before .before .pre .3 (c .before .before .before .before .loop .i) (omega arith))
+level-requires c κs = (c .before .before .before .before .loop .inv .1, c .before .before .before .before .before .before .pre .3 (c .before .before .before .before .loop .entry) (omega arith))
 
-add-i : tie.Need-add-i Inv-loop μ-loop
-add-i c = omega arith
+add-entry : tie.Need-add-entry Inv-loop μ-loop
+add-entry c = omega arith
 
 loop-less : tie.Need-loop-less Inv-loop μ-loop
 loop-less c = omega arith
@@ -53,7 +53,7 @@ loop-again : tie.Need-loop-again Inv-loop μ-loop
 loop-again c = (omega arith, ap length (c .level .ensures) ∙ put-level-length _ _ _ ∙ c .before .before .before .before .before .loop .inv .1, scene-more _ _ _ _ _ _ _ (c .before .before .before .before .before .before .before .pre .1) (c .before .before .before .word-at .ensures .0) (c .before .before .before .before .before .loop .inv .2) (c .level .ensures))
 
 returns : tie.Need-returns Inv-loop μ-loop
-returns c = let e : c .before .loop .i ≡ c .before .before .before .args .n = omega arith in rw e at (c .before .loop .inv .2)
+returns c = let e : c .before .loop .entry ≡ c .before .before .before .args .n = omega arith in rw e at (c .before .loop .inv .2)
 
 pub store-all-spec : {M : Type 1} → statement M
 store-all-spec =
@@ -70,7 +70,7 @@ store-all-spec =
     shared-slice-read-level
     cast-level
     level-requires
-    add-i
+    add-entry
     loop-less
     loop-again
     returns)
