@@ -9,7 +9,7 @@ mod scenes;
 mod store;
 
 ghost use mathlib.Core.Path.{_≡_};
-ghost use Rattle.host.specs.Record.{soundOf, openOf, registerOf, lampOf, groupOf, switchOf, sceneOf, powerLostOf};
+ghost use Rattle.host.specs.Record.{recordOf, soundOf, openOf, registerOf, lampOf, groupOf, switchOf, sceneOf, powerLostOf};
 use map::Answer;
 use map::Field;
 
@@ -31,6 +31,13 @@ pub fn sound(r: Record) -> bool
     ensures { λ x. ⌜ x ≡ soundOf r ⌝ }
 {
     answers::sound(r.member, r.bus, r.pins, &r.settings, &r.image)
+}
+
+// The same for a record in its parts, for callers that have them by reference.
+pub fn parts_sound<'a>(member: u8, bus: u8, pins: u8, settings: &'a [u8], image: &'a [u8]) -> bool
+    ensures { λ x. ⌜ x ≡ soundOf (recordOf member bus pins (now (settings .entry)) (now (image .entry))) ⌝ }
+{
+    answers::sound(member, bus, pins, settings, image)
 }
 
 // A new record of a member, on bus 0 (I2C, with the chip's two address pins) or 1 (SPI, pins 0).

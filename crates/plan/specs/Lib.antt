@@ -4,6 +4,7 @@ pub mod Writes
 pub mod Weight
 pub mod PlanLaws
 pub mod ScanLaws
+pub mod RunLaws
 pub mod Cheapest
 pub mod Update
 pub mod PlanExamples

@@ -1,0 +1,5 @@
+pub mod Marks
+pub mod Writable
+pub mod Turns
+pub mod Bytes
+pub mod Loops

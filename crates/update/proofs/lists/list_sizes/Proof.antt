@@ -1,0 +1,32 @@
+use borrow.Author.Needs.{needs}
+use Rattle.update.proofs.lists.list_sizes.Statement.{statement}
+use Rattle.update.proofs.lists.list_sizes.Tie as tie
+use Rattle.update.proofs.lists.list_sizes.Reads as reads
+use Rattle.update.proofs.lists.list_sizes.Lts as lts
+use Rattle.update.proofs.lists.first_count.Reads as first-count-reads
+use Rattle.update.proofs.runs.count_writes.Reads as count-writes-reads
+
+-- src/lists.rt:178:9
+first-count-requires : tie.Need-first-count-requires
+first-count-requires c κs = search needs
+
+-- src/lists.rt:179:8
+shared-slice-read-if1 : tie.Need-shared-slice-read-if1
+shared-slice-read-if1 c = search needs
+
+-- src/lists.rt:180:9
+returns : tie.Need-returns
+returns c = ?
+
+-- src/lists.rt:186:9
+count-writes-requires : tie.Need-count-writes-requires
+count-writes-requires c κs = search needs
+
+-- src/lists.rt:167:1
+returns-2 : tie.Need-returns-2
+returns-2 c = ?
+
+pub list-sizes-spec : {M : Type 1} → statement M
+list-sizes-spec =
+    tie.close
+    (tie.spec first-count-requires shared-slice-read-if1 returns count-writes-requires returns-2)

@@ -1,0 +1,288 @@
+// The list of an update, written to the front of a buffer: n and t, the lengths, the transactions.
+ghost use mathlib.Core.Path.{_≡_};
+ghost use mathlib.Core.List.{_++_};
+ghost use Prim.Native.Nat.{_+_, _*_, _<_, _≤_};
+ghost use lib.ListN.{length, take, drop};
+ghost use lib.Seq.{sets};
+ghost use Rattle.burst.specs.Burst.{sizeBytes, sizesBytes, transactionOf};
+ghost use Rattle.plan.specs.Plan.{cost, plan};
+ghost use Rattle.plan.specs.Update.{dataOf, storeAll};
+ghost use Rattle.host.specs.Record.{recordOf};
+ghost use Rattle.update.specs.Update.{updateAnswer, updateImage, updateBuffer};
+ghost use Rattle.update.specs.Runs.{marksOf, Pair, Tables, ListSizes, firstCount, firstRun, pendingRuns, listBytes, transactionLengths, transactionBytes, storeWrites};
+use crate::ListAnswer;
+use crate::runs;
+use map::Refusal;
+
+// The data bytes of a write go behind the two head bytes of its part of the buffer,
+fn put_data(part: &mut [u8], settings: &[u8], start: usize, len: usize)
+    requires { ⌜ (2 + len ≤ length (now part)) × (start + len ≤ length (now settings)) ⌝ }
+    ensures { λ _. ⌜ now (part .exit) ≡ sets (now (part .entry)) 2 (take len (drop start (now (settings .entry)))) ⌝ }
+{
+    let mut i: usize = 0;
+    while i < len {
+        part[2 + i] = settings[start + i];
+        i += 1;
+    }
+}
+
+// and to their addresses in the chip image.
+fn take_data(image: &mut [u8; 908], settings: &[u8], start: usize, len: usize)
+    requires { ⌜ (length (now image) ≡ 908) × (length (now settings) ≡ 908) × (start + len ≤ 908) ⌝ }
+    ensures { λ _. ⌜ now (image .exit) ≡ sets (now (image .entry)) start (take len (drop start (now (settings .entry)))) ⌝ }
+{
+    let mut i: usize = 0;
+    while i < len {
+        image[start + i] = settings[start + i];
+        i += 1;
+    }
+}
+
+// One transaction, into the part of the buffer that starts where it belongs.
+pub(crate) fn put_transaction(
+    part: &mut [u8],
+    bus: u8,
+    pins: u8,
+    settings: &[u8],
+    start: usize,
+    len: usize,
+)
+    requires { ⌜ (2 + len ≤ length (now part)) × (start + len ≤ length (now settings)) ⌝ }
+    ensures { λ _. ⌜ now (part .exit) ≡ sets (now (part .entry)) 0 (transactionOf bus pins (dataOf (now (settings .entry)) (record { start = start; len = len }))) ⌝ }
+{
+    part[0] = burst::head_first(bus, pins, start);
+    part[1] = burst::head_second(bus, start);
+    put_data(part, settings, start, len);
+}
+
+// n and t, and the length of the enabling write if there is one.
+fn put_header(buffer: &mut [u8], n: usize, t: usize, first: usize)
+    requires { ⌜ (first ≤ 1) × (4 + 2 * first ≤ length (now buffer)) ⌝ }
+    ensures { λ _. ⌜ now (buffer .exit) ≡ sets (now (buffer .entry)) 0 (sizeBytes n ++ (sizeBytes t ++ sizesBytes (transactionLengths (firstRun first)))) ⌝ }
+{
+    burst::put_size(buffer, 0, n);
+    burst::put_size(buffer, 2, t);
+    if first == 1 {
+        burst::put_size(buffer, 4, 3);
+    }
+}
+
+// The lengths of the plan's first `writes` transactions, from `at` on.
+fn put_lengths<'a>(
+    buffer: &mut [u8],
+    at: usize,
+    kinds: &[u8],
+    member: usize,
+    lines: usize,
+    columns: u32,
+    settings: &'a [u8],
+    image: &'a [u8],
+    writes: usize,
+)
+    requires { ⌜ Tables (now kinds) member lines columns × Pair member (now settings) (now image) × (writes ≤ length (plan (marksOf member (now settings) (now image)) 908)) × (at + 2 * writes ≤ length (now buffer)) ⌝ }
+    ensures { λ _. ⌜ now (buffer .exit) ≡ sets (now (buffer .entry)) at (sizesBytes (transactionLengths (take writes (plan (marksOf member (now (settings .entry)) (now (image .entry))) 908)))) ⌝ }
+{
+    let mut from: usize = 1;
+    let mut i: usize = 0;
+    while i < writes {
+        let start = runs::first_differing(settings, image, from);
+        let end = runs::run_end(kinds, member, lines, columns, settings, image, start + 1);
+        burst::put_size(buffer, at + 2 * i, end - start + 2);
+        from = end;
+        i += 1;
+    }
+}
+
+// The enabling write's transaction, if there is one.
+fn put_first(
+    buffer: &mut [u8],
+    at: usize,
+    first: usize,
+    bus: u8,
+    pins: u8,
+    settings: &[u8],
+    image: &mut [u8; 908],
+)
+    requires { ⌜ (first ≤ 1) × (length (now settings) ≡ 908) × (length (now image) ≡ 908) × (at + 3 * first ≤ length (now buffer)) ⌝ }
+    ensures { λ _. ⌜ now (buffer .exit) ≡ sets (now (buffer .entry)) at (transactionBytes bus pins (now (settings .entry)) (firstRun first)) ⌝ }
+    ensures { λ _. ⌜ now (image .exit) ≡ storeWrites (now (settings .entry)) (firstRun first) (now (image .entry)) ⌝ }
+{
+    if first == 1 {
+        put_transaction(&mut buffer[at..], bus, pins, settings, 0, 1);
+        take_data(image, settings, 0, 1);
+    }
+}
+
+// The plan's first `writes` transactions, from `place` on; what is sent is stored into the image.
+fn put_writes<'a>(
+    buffer: &mut [u8],
+    place: usize,
+    bus: u8,
+    pins: u8,
+    kinds: &[u8],
+    member: usize,
+    lines: usize,
+    columns: u32,
+    settings: &'a [u8],
+    old: &'a [u8],
+    image: &mut [u8; 908],
+    writes: usize,
+)
+    requires { ⌜ Tables (now kinds) member lines columns × Pair member (now settings) (now old) × (length (now image) ≡ 908) × (writes ≤ length (plan (marksOf member (now settings) (now old)) 908)) × (place + cost (take writes (plan (marksOf member (now settings) (now old)) 908)) ≤ length (now buffer)) ⌝ }
+    ensures { λ _. ⌜ now (buffer .exit) ≡ sets (now (buffer .entry)) place (transactionBytes bus pins (now (settings .entry)) (take writes (plan (marksOf member (now (settings .entry)) (now (old .entry))) 908))) ⌝ }
+    ensures { λ _. ⌜ now (image .exit) ≡ storeWrites (now (settings .entry)) (take writes (plan (marksOf member (now (settings .entry)) (now (old .entry))) 908)) (now (image .entry)) ⌝ }
+{
+    let mut from: usize = 1;
+    let mut at = place;
+    let mut i: usize = 0;
+    while i < writes {
+        let start = runs::first_differing(settings, old, from);
+        let end = runs::run_end(kinds, member, lines, columns, settings, old, start + 1);
+        put_transaction(&mut buffer[at..], bus, pins, settings, start, end - start);
+        take_data(image, settings, start, end - start);
+        at += end - start + 2;
+        from = end;
+        i += 1;
+    }
+}
+
+// 1 where settings and chip image disagree in chip enable.
+fn first_count<'a>(settings: &'a [u8], image: &'a [u8]) -> usize
+    requires { ⌜ (length (now settings) ≡ 908) × (length (now image) ≡ 908) ⌝ }
+    ensures { λ r. ⌜ (r ≡ firstCount (now (settings .entry)) (now (image .entry))) × (r ≤ 1) ⌝ }
+{
+    if settings[0] % 2 == image[0] % 2 {
+        return 0;
+    }
+    1
+}
+
+// What an update sends: the enabling write, and so many writes of the plan with so many bytes.
+struct Size {
+    first: usize,
+    writes: usize,
+    bytes: usize,
+}
+
+fn list_sizes<'a>(
+    kinds: &[u8],
+    member: usize,
+    lines: usize,
+    columns: u32,
+    settings: &'a [u8],
+    image: &'a [u8],
+) -> Size
+    requires { ⌜ Tables (now kinds) member lines columns × Pair member (now settings) (now image) ⌝ }
+    ensures { λ r. ⌜ ListSizes member (now (settings .entry)) (now (image .entry)) (r .first) (r .writes) (r .bytes) ⌝ }
+{
+    let first = first_count(settings, image);
+    if settings[0] % 2 != 1 {
+        return Size {
+            first: first,
+            writes: 0,
+            bytes: 0,
+        };
+    }
+    let counted = runs::count_writes(kinds, member, lines, columns, settings, image);
+    Size {
+        first: first,
+        writes: counted.writes,
+        bytes: counted.bytes,
+    }
+}
+
+// The whole list, piece after piece.
+fn put_list<'a>(
+    buffer: &mut [u8],
+    size: Size,
+    bus: u8,
+    pins: u8,
+    kinds: &[u8],
+    member: usize,
+    lines: usize,
+    columns: u32,
+    settings: &'a [u8],
+    old: &'a [u8],
+    image: &mut [u8; 908],
+)
+    requires { ⌜ Tables (now kinds) member lines columns × Pair member (now settings) (now old) × ListSizes member (now settings) (now old) (size .first) (size .writes) (size .bytes) × (length (now image) ≡ 908) × (4 + 2 * (size .first + size .writes) + (3 * size .first + size .bytes) ≤ length (now buffer)) ⌝ }
+    ensures { λ _. ⌜ now (buffer .exit) ≡ sets (now (buffer .entry)) 0 (listBytes bus pins member (now (settings .entry)) (now (old .entry)) (size .first) (size .bytes)) ⌝ }
+    ensures { λ _. ⌜ now (image .exit) ≡ storeWrites (now (settings .entry)) (pendingRuns member (now (settings .entry)) (now (old .entry)) (size .first)) (now (image .entry)) ⌝ }
+{
+    let first = size.first;
+    let writes = size.writes;
+    let n = first + writes;
+    let t = 3 * first + size.bytes;
+    put_header(buffer, n, t, first);
+    put_lengths(
+        buffer,
+        4 + 2 * first,
+        kinds,
+        member,
+        lines,
+        columns,
+        settings,
+        old,
+        writes,
+    );
+    put_first(buffer, 4 + 2 * n, first, bus, pins, settings, image);
+    put_writes(
+        buffer,
+        4 + 2 * n + 3 * first,
+        bus,
+        pins,
+        kinds,
+        member,
+        lines,
+        columns,
+        settings,
+        old,
+        image,
+        writes,
+    );
+}
+
+// The update itself: sizes first, so that a short buffer is refused before a byte is written.
+pub(crate) fn update<'a>(
+    member: u8,
+    bus: u8,
+    pins: u8,
+    settings: &'a [u8],
+    old: &'a [u8],
+    image: &mut [u8; 908],
+    buffer: &mut [u8],
+) -> ListAnswer
+    requires { ⌜ (length (now settings) ≡ 908) × (length (now old) ≡ 908) × (now image ≡ now old) ⌝ }
+    ensures { λ r. ⌜ r ≡ updateAnswer (recordOf member bus pins (now (settings .entry)) (now (old .entry))) (length (now (buffer .entry))) ⌝ }
+    ensures { λ _. ⌜ now (image .exit) ≡ updateImage (recordOf member bus pins (now (settings .entry)) (now (old .entry))) (length (now (buffer .entry))) ⌝ }
+    ensures { λ _. ⌜ now (buffer .exit) ≡ updateBuffer (recordOf member bus pins (now (settings .entry)) (now (old .entry))) (now (buffer .entry)) ⌝ }
+{
+    if !host::parts_sound(member, bus, pins, settings, old) {
+        return ListAnswer::Refused(Refusal::Unsound);
+    }
+    let kinds = map::kind_table();
+    let m = member as usize;
+    let lines = map::lines(m);
+    let columns = map::columns(m);
+    let size = list_sizes(&kinds, m, lines, columns, settings, old);
+    let n = size.first + size.writes;
+    let t = 3 * size.first + size.bytes;
+    let needed = 4 + 2 * n + t;
+    if buffer.len() < needed {
+        return ListAnswer::Short { needed: needed };
+    }
+    put_list(
+        buffer,
+        size,
+        bus,
+        pins,
+        &kinds,
+        m,
+        lines,
+        columns,
+        settings,
+        old,
+        image,
+    );
+    ListAnswer::Listed { n: n, t: t }
+}

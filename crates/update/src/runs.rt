@@ -1,0 +1,133 @@
+// The writes of an update, one after the other: the next differing address, and how far its write goes.
+//
+// In a sound record a differing byte is writable, so the scan looks for differing bytes alone, and asks whether an address is
+// writable only of the one or two that a write would send again.
+ghost use mathlib.Core.Path.{_≡_};
+ghost use Prim.Native.Nat.{_+_, _<_, _≤_};
+ghost use lib.ListN.{length};
+ghost use Rattle.map.specs.Map.{linesOf, columnsOf, writableOf};
+ghost use Rattle.map.specs.KindTable.{kindTable};
+ghost use Rattle.update.specs.Runs.{Pair, Tables, FirstDiffering, Further, RunEnd, Counted, differsAt};
+
+// The first address from `from` on at which the two differ; 908 where there is none.
+pub(crate) fn first_differing<'a>(settings: &'a [u8], image: &'a [u8], from: usize) -> usize
+    requires { ⌜ (length (now settings) ≡ 908) × (length (now image) ≡ 908) × (from ≤ 908) ⌝ }
+    ensures { λ r. ⌜ FirstDiffering (now (settings .entry)) (now (image .entry)) from r ⌝ }
+{
+    let mut a = from;
+    while a < 908 {
+        if settings[a] != image[a] {
+            return a;
+        }
+        a += 1;
+    }
+    a
+}
+
+fn differs<'a>(settings: &'a [u8], image: &'a [u8], a: usize) -> bool
+    requires { ⌜ (length (now settings) ≡ 908) × (length (now image) ≡ 908) ⌝ }
+    ensures { λ r. ⌜ r ≡ differsAt (now (settings .entry)) (now (image .entry)) a ⌝ }
+{
+    if 908 <= a {
+        return false;
+    }
+    settings[a] != image[a]
+}
+
+// Whether an address is writable, with the member's tables at hand.
+fn is_writable(kinds: &[u8], member: usize, lines: usize, columns: u32, a: usize) -> bool
+    requires { ⌜ Tables (now kinds) member lines columns ⌝ }
+    ensures { λ r. ⌜ r ≡ writableOf member a ⌝ }
+{
+    map::reserved_as(map::kind_in(kinds, a), member, lines, columns, a) < 255
+}
+
+// How far the write that has come to `end` goes on: behind the next differing address if that joins, else `end` itself.
+fn further<'a>(
+    kinds: &[u8],
+    member: usize,
+    lines: usize,
+    columns: u32,
+    settings: &'a [u8],
+    image: &'a [u8],
+    end: usize,
+) -> usize
+    requires { ⌜ Tables (now kinds) member lines columns × Pair member (now settings) (now image) × (0 < end) × (end < 908) ⌝ }
+    ensures { λ r. ⌜ Further member (now (settings .entry)) (now (image .entry)) end r ⌝ }
+{
+    if differs(settings, image, end) {
+        return end + 1;
+    }
+    if differs(settings, image, end + 1) {
+        if is_writable(kinds, member, lines, columns, end) {
+            return end + 2;
+        }
+        return end;
+    }
+    if !differs(settings, image, end + 2) {
+        return end;
+    }
+    if !is_writable(kinds, member, lines, columns, end) {
+        return end;
+    }
+    if !is_writable(kinds, member, lines, columns, end + 1) {
+        return end;
+    }
+    end + 3
+}
+
+// Where the write ends that has come to `from`.
+pub(crate) fn run_end<'a>(
+    kinds: &[u8],
+    member: usize,
+    lines: usize,
+    columns: u32,
+    settings: &'a [u8],
+    image: &'a [u8],
+    from: usize,
+) -> usize
+    requires { ⌜ Tables (now kinds) member lines columns × Pair member (now settings) (now image) × (0 < from) × (from ≤ 908) ⌝ }
+    ensures { λ r. ⌜ RunEnd member (now (settings .entry)) (now (image .entry)) from r ⌝ }
+{
+    let mut end = from;
+    while end < 908 {
+        let next = further(kinds, member, lines, columns, settings, image, end);
+        if next == end {
+            return end;
+        }
+        end = next;
+    }
+    end
+}
+
+// How many writes there are, and their bytes together.
+pub(crate) struct Totals {
+    pub writes: usize,
+    pub bytes: usize,
+}
+
+pub(crate) fn count_writes<'a>(
+    kinds: &[u8],
+    member: usize,
+    lines: usize,
+    columns: u32,
+    settings: &'a [u8],
+    image: &'a [u8],
+) -> Totals
+    requires { ⌜ Tables (now kinds) member lines columns × Pair member (now settings) (now image) ⌝ }
+    ensures { λ r. ⌜ Counted member (now (settings .entry)) (now (image .entry)) (r .writes) (r .bytes) ⌝ }
+{
+    let mut writes: usize = 0;
+    let mut bytes: usize = 0;
+    let mut at = first_differing(settings, image, 1);
+    while at < 908 {
+        let end = run_end(kinds, member, lines, columns, settings, image, at + 1);
+        writes += 1;
+        bytes += end - at + 2;
+        at = first_differing(settings, image, end);
+    }
+    Totals {
+        writes: writes,
+        bytes: bytes,
+    }
+}
