@@ -3,3 +3,4 @@ pub mod Writable
 pub mod Turns
 pub mod Bytes
 pub mod Loops
+pub mod Whole

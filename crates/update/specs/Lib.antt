@@ -1,2 +1,3 @@
 pub mod Update
 pub mod Runs
+pub mod UpdateLaws

@@ -80,6 +80,17 @@ unfoldable pub commandBuffer : Record → ℕ → ℕ → List ℕ → List ℕ
 commandBuffer r a v buffer =
     cond (isListed (commandAnswer r (length buffer))) (over (encode (r .bus) (r .pins) (commandWrite a v)) buffer) buffer
 
+-- "One write of FFh to 0A9h"
+abbrev pub resetBuffer : Record → List ℕ → List ℕ
+resetBuffer r buffer = commandBuffer r 0x0A9 0xFF buffer
+
+-- "one write of 0Fh to 0A7h, or to 0A8h."
+abbrev pub clearOpensBuffer : Record → List ℕ → List ℕ
+clearOpensBuffer r buffer = commandBuffer r 0x0A7 0x0F buffer
+
+abbrev pub clearShortsBuffer : Record → List ℕ → List ℕ
+clearShortsBuffer r buffer = commandBuffer r 0x0A8 0x0F buffer
+
 -- Reset: "After either, the chip image has reset values and the settings are kept."
 unfoldable pub resetOf : Record → ℕ → Updated
 resetOf r size = record {

@@ -4,11 +4,13 @@
 // differ, joins neighbours in one write where at most two writable addresses lie between them, and takes what it sends into the
 // chip image. Reset and the Clears are fixed commands. Each call writes its list to the front of the caller's buffer, answers the
 // number of transactions and their bytes, and leaves the rest of the buffer as it was.
+mod commands;
 mod lists;
 mod runs;
 
 ghost use mathlib.Core.Path.{_≡_};
-ghost use Rattle.update.specs.Update.{listNumber};
+ghost use lib.ListN.{length};
+ghost use Rattle.update.specs.Update.{updateOf, updateBuffer, resetOf, clearOf, resetBuffer, clearOpensBuffer, clearShortsBuffer, listNumber};
 use host::Record;
 use map::Refusal;
 
@@ -35,5 +37,86 @@ pub fn list_number(answer: ListAnswer) -> u8
         ListAnswer::Listed { n: _, t: _ } => 0,
         ListAnswer::Short { needed: _ } => map::refusal_number(Refusal::BufferShort),
         ListAnswer::Refused(refusal) => map::refusal_number(refusal),
+    }
+}
+
+// Bring the chip to the settings: the shortest list that does so. Afterwards the chip image is what the chip holds once it has heard
+// the list.
+pub fn update(mut r: Record, buffer: &mut [u8]) -> Updated
+    ensures { λ x. ⌜ x ≡ updateOf r (length (now (buffer .entry))) ⌝ }
+    ensures { λ _. ⌜ now (buffer .exit) ≡ updateBuffer r (now (buffer .entry)) ⌝ }
+{
+    let mut image = r.image;
+    let answer = lists::update(r.member, r.bus, r.pins, &r.settings, &r.image, &mut image, buffer);
+    r.image = image;
+    Updated {
+        answer: answer,
+        state: r,
+    }
+}
+
+// Put every register of the chip to its reset value. The settings are kept, so that the next update sends them again.
+pub fn reset(mut r: Record, buffer: &mut [u8]) -> Updated
+    ensures { λ x. ⌜ x ≡ resetOf r (length (now (buffer .entry))) ⌝ }
+    ensures { λ _. ⌜ now (buffer .exit) ≡ resetBuffer r (now (buffer .entry)) ⌝ }
+{
+    let answer = commands::command(
+        r.member,
+        r.bus,
+        r.pins,
+        &r.settings,
+        &r.image,
+        buffer,
+        0x0A9,
+        0xFF,
+    );
+    let believed = r.image;
+    let image = commands::after_reset(answer, r.member as usize, believed);
+    r.image = image;
+    Updated {
+        answer: answer,
+        state: r,
+    }
+}
+
+// Clear the open bits of the chip.
+pub fn clear_opens(r: Record, buffer: &mut [u8]) -> Updated
+    ensures { λ x. ⌜ x ≡ clearOf r (length (now (buffer .entry))) ⌝ }
+    ensures { λ _. ⌜ now (buffer .exit) ≡ clearOpensBuffer r (now (buffer .entry)) ⌝ }
+{
+    let answer = commands::command(
+        r.member,
+        r.bus,
+        r.pins,
+        &r.settings,
+        &r.image,
+        buffer,
+        0x0A7,
+        0x0F,
+    );
+    Updated {
+        answer: answer,
+        state: r,
+    }
+}
+
+// Clear the short bits of the chip.
+pub fn clear_shorts(r: Record, buffer: &mut [u8]) -> Updated
+    ensures { λ x. ⌜ x ≡ clearOf r (length (now (buffer .entry))) ⌝ }
+    ensures { λ _. ⌜ now (buffer .exit) ≡ clearShortsBuffer r (now (buffer .entry)) ⌝ }
+{
+    let answer = commands::command(
+        r.member,
+        r.bus,
+        r.pins,
+        &r.settings,
+        &r.image,
+        buffer,
+        0x0A8,
+        0x0F,
+    );
+    Updated {
+        answer: answer,
+        state: r,
     }
 }

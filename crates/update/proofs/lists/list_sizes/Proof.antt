@@ -1,3 +1,5 @@
+use native.Mathlib.Omega.{arith}
+use Rattle.update.proofs.Whole.{sizes-off, sizes-on}
 use borrow.Author.Needs.{needs}
 use Rattle.update.proofs.lists.list_sizes.Statement.{statement}
 use Rattle.update.proofs.lists.list_sizes.Tie as tie
@@ -16,7 +18,7 @@ shared-slice-read-if1 c = search needs
 
 -- src/lists.rt:180:9
 returns : tie.Need-returns
-returns c = ?
+returns c = sizes-off _ _ _ _ (c .before .before .first-count .ensures) (c .if1 .taken)
 
 -- src/lists.rt:186:9
 count-writes-requires : tie.Need-count-writes-requires
@@ -24,7 +26,7 @@ count-writes-requires c κs = search needs
 
 -- src/lists.rt:167:1
 returns-2 : tie.Need-returns-2
-returns-2 c = ?
+returns-2 c = sizes-on _ _ _ _ _ _ (c .before .before .before .first-count .ensures) (omega (arith, c .before .if1 .left)) (c .count-writes .ensures)
 
 pub list-sizes-spec : {M : Type 1} → statement M
 list-sizes-spec =

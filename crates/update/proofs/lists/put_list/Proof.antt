@@ -1,3 +1,12 @@
+use mathlib.Core.List.{map}
+use Rattle.plan.specs.Update.{dataOf}
+use Rattle.update.specs.Runs.{firstRun}
+use Rattle.update.proofs.Whole.{stored-length}
+use mathlib.Core.Path.{ap, _∙_}
+use lib.ListN.{length}
+use Rattle.update.proofs.Whole.{writes-most, bytes-cost, list-written, list-taken}
+use native.Mathlib.Omega.{arith}
+use lib.Seq.{length-sets}
 use borrow.Author.Needs.{needs}
 use Rattle.update.proofs.lists.put_list.Statement.{statement}
 use Rattle.update.proofs.lists.put_list.Tie as tie
@@ -34,7 +43,7 @@ add-put-lengths c = search needs
 
 -- src/lists.rt:217:5
 put-lengths-requires : tie.Need-put-lengths-requires
-put-lengths-requires c κs = ?
+put-lengths-requires c κs = ((c .before .before .before .before .before .before .before .before .before .before .pre .0), (c .before .before .before .before .before .before .before .before .before .before .pre .1), writes-most _ _ _ _ _ _ (c .before .before .before .before .before .before .before .before .before .before .pre .2), omega (arith, (c .before .before .before .before .before .before .before .before .before .before .pre .4), c .before .before .before .put-header .kept .0))
 
 -- src/lists.rt:228:27
 mul-put-first : tie.Need-mul-put-first
@@ -66,7 +75,7 @@ add-put-writes-2 c = search needs
 
 -- src/lists.rt:229:5
 put-writes-requires : tie.Need-put-writes-requires
-put-writes-requires c κs = ?
+put-writes-requires c κs = ((c .before .before .before .before .before .before .before .before .before .before .before .before .before .before .before .before .before .before .before .before .pre .0), (c .before .before .before .before .before .before .before .before .before .before .before .before .before .before .before .before .before .before .before .before .pre .1), ap length (c .before .before .before .before .put-first .ensures .1) ∙ stored-length (map (dataOf (c .before .before .before .before .before .before .before .before .before .before .before .before .before .before .before .before .before .before .before .before .args .settings .now)) (firstRun (c .before .before .before .before .before .before .before .before .before .before .before .before .before .before .before .before .before .before .before .before .args .size .first))) (c .before .before .before .before .before .before .before .before .before .before .before .before .before .before .before .before .before .before .before .before .args .image .now) ∙ (c .before .before .before .before .before .before .before .before .before .before .before .before .before .before .before .before .before .before .before .before .pre .3), writes-most _ _ _ _ _ _ (c .before .before .before .before .before .before .before .before .before .before .before .before .before .before .before .before .before .before .before .before .pre .2), omega (arith, bytes-cost _ _ _ _ _ _ (c .before .before .before .before .before .before .before .before .before .before .before .before .before .before .before .before .before .before .before .before .pre .2), (c .before .before .before .before .before .before .before .before .before .before .before .before .before .before .before .before .before .before .before .before .pre .4), c .before .before .before .before .put-first .kept .0, c .before .before .before .before .before .before .before .before .before .put-lengths .kept .0, c .before .before .before .before .before .before .before .before .before .before .before .before .before .put-header .kept .0))
 
 -- src/lists.rt:195:1
 same-length : tie.Need-same-length
@@ -74,7 +83,7 @@ same-length c = search needs
 
 -- src/lists.rt:195:1
 returns : tie.Need-returns
-returns c = ?
+returns c = (list-written _ _ _ _ _ _ (c .before .before .before .before .before .before .before .before .before .before .before .before .before .before .before .before .before .before .before .before .before .before .before .pre .2) _ _ ((c .before .before .before .before .before .before .before .before .before .before .before .before .before .before .before .before .before .before .before .before .before .before .before .pre .1) .settings-size) _ _ _ _ _ (c .before .before .before .before .before .before .before .before .before .before .before .before .before .before .before .before .put-header .ensures) (c .before .before .before .before .before .before .before .before .before .before .before .before .put-lengths .ensures) (c .before .before .before .before .before .before .before .put-first .ensures .0) (c .before .before .put-writes .ensures .0), list-taken _ _ _ _ _ _ (c .before .before .before .before .before .before .before .before .before .before .before .before .before .before .before .before .before .before .before .before .before .before .before .pre .2) _ _ _ (c .before .before .before .before .before .before .before .put-first .ensures .1) (c .before .before .put-writes .ensures .1))
 
 pub put-list-spec : {M : Type 1} → statement M
 put-list-spec =

@@ -1,3 +1,13 @@
+use borrow.Author.Tests.{not-true, not-false}
+use mathlib.Core.Path.{ap}
+use lib.ListN.{length}
+use Rattle.update.specs.Runs.{storeWrites, pendingRuns}
+use mathlib.Core.List.{List}
+use Prim.Native.Nat.{ℕ}
+use Rattle.update.proofs.Whole.{sound-pair, update-unsound, update-short, update-listed}
+use native.Mathlib.Omega.{arith}
+use mathlib.Core.Path.{sym, _∙_}
+use Rattle.host.specs.Record.{recordOf}
 use borrow.Author.Needs.{needs}
 use Rattle.update.proofs.lists.update.Statement.{statement}
 use Rattle.update.proofs.lists.update.Tie as tie
@@ -16,7 +26,7 @@ parts-sound-requires c κs = search needs
 
 -- src/lists.rt:261:9
 returns : tie.Need-returns
-returns c = ?
+returns c = update-unsound (recordOf (c .before .before .before .before .before .args .member) (c .before .before .before .before .before .args .bus) (c .before .before .before .before .before .args .pins) (c .before .before .before .before .before .args .settings .now) (c .before .before .before .before .before .args .old .now)) _ (c .before .before .before .before .before .args .buffer .now) (sym (c .before .parts-sound .ensures) ∙ not-true _ (c .if1 .taken)) (c .before .before .before .before .before .pre .2)
 
 -- src/lists.rt:263:17
 kind-table-requires : tie.Need-kind-table-requires
@@ -36,7 +46,7 @@ slice-aggregate-list-sizes c = search needs
 
 -- src/lists.rt:267:9
 list-sizes-requires : tie.Need-list-sizes-requires
-list-sizes-requires c κs = ?
+list-sizes-requires c κs = (record { kinds-are = c .before .before .before .kind-table .ensures; lines-are = c .before .before .lines .ensures .0; columns-are = c .before .columns .ensures }, sound-pair (recordOf (c .before .before .before .before .before .before .before .before .before .args .member) (c .before .before .before .before .before .before .before .before .before .args .bus) (c .before .before .before .before .before .before .before .before .before .args .pins) (c .before .before .before .before .before .before .before .before .before .args .settings .now) (c .before .before .before .before .before .before .before .before .before .args .old .now)) (sym (c .before .before .before .before .before .parts-sound .ensures) ∙ not-false _ (c .before .before .before .before .if1 .left)))
 
 -- src/lists.rt:268:13
 add-n : tie.Need-add-n
@@ -64,7 +74,7 @@ add-needed-2 c = search needs
 
 -- src/lists.rt:272:9
 returns-2 : tie.Need-returns-2
-returns-2 c = ?
+returns-2 c = update-short (recordOf (c .before .before .before .before .before .before .before .before .before .before .before .before .before .before .args .member) (c .before .before .before .before .before .before .before .before .before .before .before .before .before .before .args .bus) (c .before .before .before .before .before .before .before .before .before .before .before .before .before .before .args .pins) (c .before .before .before .before .before .before .before .before .before .before .before .before .before .before .args .settings .now) (c .before .before .before .before .before .before .before .before .before .before .before .before .before .before .args .old .now)) _ (c .before .before .before .before .before .before .before .before .before .before .before .before .before .before .args .buffer .now) _ _ _ (sym (c .before .before .before .before .before .before .before .before .before .before .parts-sound .ensures) ∙ not-false _ (c .before .before .before .before .before .before .before .before .before .if1 .left)) (c .before .before .before .before .list-sizes .ensures) (c .if2 .taken) (c .before .before .before .before .before .before .before .before .before .before .before .before .before .before .pre .2)
 
 -- src/lists.rt:279:9
 slice-aggregate-put-list : tie.Need-slice-aggregate-put-list
@@ -72,7 +82,7 @@ slice-aggregate-put-list c = search needs
 
 -- src/lists.rt:274:5
 put-list-requires : tie.Need-put-list-requires
-put-list-requires c κs = ?
+put-list-requires c κs = (record { kinds-are = c .before .before .before .before .before .before .before .before .before .before .before .kind-table .ensures; lines-are = c .before .before .before .before .before .before .before .before .before .before .lines .ensures .0; columns-are = c .before .before .before .before .before .before .before .before .before .columns .ensures }, sound-pair (recordOf (c .before .before .before .before .before .before .before .before .before .before .before .before .before .before .before .before .before .args .member) (c .before .before .before .before .before .before .before .before .before .before .before .before .before .before .before .before .before .args .bus) (c .before .before .before .before .before .before .before .before .before .before .before .before .before .before .before .before .before .args .pins) (c .before .before .before .before .before .before .before .before .before .before .before .before .before .before .before .before .before .args .settings .now) (c .before .before .before .before .before .before .before .before .before .before .before .before .before .before .before .before .before .args .old .now)) (sym (c .before .before .before .before .before .before .before .before .before .before .before .before .before .parts-sound .ensures) ∙ not-false _ (c .before .before .before .before .before .before .before .before .before .before .before .before .if1 .left)), c .before .before .before .before .before .before .before .list-sizes .ensures, ap length (c .before .before .before .before .before .before .before .before .before .before .before .before .before .before .before .before .before .pre .2) ∙ (c .before .before .before .before .before .before .before .before .before .before .before .before .before .before .before .before .before .pre .1), omega (arith, c .before .before .before .if2 .left))
 
 -- src/lists.rt:246:1
 same-length : tie.Need-same-length
@@ -80,7 +90,7 @@ same-length c = search needs
 
 -- src/lists.rt:246:1
 returns-3 : tie.Need-returns-3
-returns-3 c = ?
+returns-3 c = update-listed (recordOf (c .before .before .before .before .before .before .before .before .before .before .before .before .before .before .before .before .before .before .before .before .args .member) (c .before .before .before .before .before .before .before .before .before .before .before .before .before .before .before .before .before .before .before .before .args .bus) (c .before .before .before .before .before .before .before .before .before .before .before .before .before .before .before .before .before .before .before .before .args .pins) (c .before .before .before .before .before .before .before .before .before .before .before .before .before .before .before .before .before .before .before .before .args .settings .now) (c .before .before .before .before .before .before .before .before .before .before .before .before .before .before .before .before .before .before .before .before .args .old .now)) _ (c .before .before .before .before .before .before .before .before .before .before .before .before .before .before .before .before .before .before .before .before .args .buffer .now) _ _ _ (sym (c .before .before .before .before .before .before .before .before .before .before .before .before .before .before .before .before .parts-sound .ensures) ∙ not-false _ (c .before .before .before .before .before .before .before .before .before .before .before .before .before .before .before .if1 .left)) (c .before .before .before .before .before .before .before .before .before .before .list-sizes .ensures) _ (omega (arith, c .before .before .before .before .before .before .if2 .left)) (c .before .before .put-list .ensures .1 ∙ ap (λ (l : List ℕ). storeWrites (c .before .before .before .before .before .before .before .before .before .before .before .before .before .before .before .before .before .before .before .before .args .settings .now) (pendingRuns (c .before .before .before .before .before .before .before .before .before .before .before .before .before .before .before .before .before .before .before .before .args .member) (c .before .before .before .before .before .before .before .before .before .before .before .before .before .before .before .before .before .before .before .before .args .settings .now) (c .before .before .before .before .before .before .before .before .before .before .before .before .before .before .before .before .before .before .before .before .args .old .now) (c .before .before .before .before .before .before .before .before .before .before .list-sizes .result .first)) l) (c .before .before .before .before .before .before .before .before .before .before .before .before .before .before .before .before .before .before .before .before .pre .2)) (c .before .before .put-list .ensures .0)
 
 pub update-spec : {M : Type 1} → statement M
 update-spec =
