@@ -4,3 +4,4 @@ pub mod Turns
 pub mod Bytes
 pub mod Loops
 pub mod Whole
+pub mod Fixed
