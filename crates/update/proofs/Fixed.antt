@@ -17,7 +17,7 @@ use Rattle.host.specs.Record.{recordOf, soundOf}
 use Rattle.update.specs.declared.ListAnswer.{ListAnswer}
 use Rattle.update.specs.declared.ListAnswer.the-variants.{Listed, Refused}
 use Rattle.update.specs.declared.Updated.{Updated}
-use Rattle.update.specs.Update.{isListed, over, updateAnswer, updateImage, updateOf, commandWrite, commandAnswer, commandBuffer, resetOf, clearOf}
+use Rattle.update.specs.Update.{isListed, over, updateAnswer, updateImage, updateOf, commandWrite, commandAnswer, commandBuffer, chipResetOf, clearOf}
 
 -- three sizes and three bytes are the list of one write of one byte
 pub command-written : (b₀ b₁ b₂ b₃ : List ℕ) (bus pins a v x y : ℕ) → b₁ ≡ putSize b₀ 0 1 → b₂ ≡ putSize b₁ 2 3 → b₃ ≡ putSize b₂ 4 3 →
@@ -48,8 +48,8 @@ module _ (r : Record) (size : ℕ) (answer : ListAnswer) where
   clear-is e = ap (λ (x : ListAnswer). record { answer = x; state = r }) e
 
   pub reset-is : (image : List ℕ) → answer ≡ commandAnswer r size → image ≡ cond (isListed answer) (resetImage (r .member)) (r .image) →
-      record { answer = answer; state = recordOf (r .member) (r .bus) (r .pins) (r .settings) image } ≡ resetOf r size
-  unfolding resetOf
+      record { answer = answer; state = recordOf (r .member) (r .bus) (r .pins) (r .settings) image } ≡ chipResetOf r size
+  unfolding chipResetOf
   reset-is image e i =
       ap₂ (λ (x : ListAnswer) (l : List ℕ). record { answer = x; state = recordOf (r .member) (r .bus) (r .pins) (r .settings) l }) e
       (i ∙ ap (λ (x : ListAnswer). cond (isListed x) (resetImage (r .member)) (r .image)) e)

@@ -1,3 +1,5 @@
 pub mod Update
 pub mod Runs
 pub mod UpdateLaws
+pub mod BoundLaws
+pub mod UpdateExamples

@@ -92,8 +92,8 @@ abbrev pub clearShortsBuffer : Record → List ℕ → List ℕ
 clearShortsBuffer r buffer = commandBuffer r 0x0A8 0x0F buffer
 
 -- Reset: "After either, the chip image has reset values and the settings are kept."
-unfoldable pub resetOf : Record → ℕ → Updated
-resetOf r size = record {
+unfoldable pub chipResetOf : Record → ℕ → Updated
+chipResetOf r size = record {
   answer = commandAnswer r size;
   state = recordOf (r .member) (r .bus) (r .pins) (r .settings) (cond (isListed (commandAnswer r size)) (resetImage (r .member)) (r .image));
 }

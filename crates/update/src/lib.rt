@@ -10,7 +10,7 @@ mod runs;
 
 ghost use mathlib.Core.Path.{_≡_};
 ghost use lib.ListN.{length};
-ghost use Rattle.update.specs.Update.{updateOf, updateBuffer, resetOf, clearOf, resetBuffer, clearOpensBuffer, clearShortsBuffer, listNumber};
+ghost use Rattle.update.specs.Update.{updateOf, updateBuffer, chipResetOf, clearOf, resetBuffer, clearOpensBuffer, clearShortsBuffer, listNumber};
 use host::Record;
 use map::Refusal;
 
@@ -57,7 +57,7 @@ pub fn update(mut r: Record, buffer: &mut [u8]) -> Updated
 
 // Put every register of the chip to its reset value. The settings are kept, so that the next update sends them again.
 pub fn reset(mut r: Record, buffer: &mut [u8]) -> Updated
-    ensures { λ x. ⌜ x ≡ resetOf r (length (now (buffer .entry))) ⌝ }
+    ensures { λ x. ⌜ x ≡ chipResetOf r (length (now (buffer .entry))) ⌝ }
     ensures { λ _. ⌜ now (buffer .exit) ≡ resetBuffer r (now (buffer .entry)) ⌝ }
 {
     let answer = commands::command(
@@ -71,8 +71,8 @@ pub fn reset(mut r: Record, buffer: &mut [u8]) -> Updated
         0xFF,
     );
     let believed = r.image;
-    let image = commands::after_reset(answer, r.member as usize, believed);
-    r.image = image;
+    let values = commands::after_reset(answer, r.member as usize, believed);
+    r.image = values;
     Updated {
         answer: answer,
         state: r,

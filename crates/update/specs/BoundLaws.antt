@@ -1,0 +1,74 @@
+-- How long an update is, for every sound record of every member.
+-- Assumes nothing.
+use mathlib.Core.Path.{_≡_, refl}
+use mathlib.Core.Bool.{Bool, true}
+use mathlib.Core.List.{List, [], _∷_, map}
+use Prim.Native.Nat.{ℕ, _*_, _+_, _≤_, _<_}
+use native.Mathlib.Omega.{arith}
+use borrow.Author.Tests.{leb-true, le-leb}
+use lib.Dec.{leb}
+use lib.ListN.{length}
+use Rattle.map.specs.Map.{kindOf, linesOf, columnsOf, hasColumn, dotIn, numberIn, firstMasks, firstMask, noSink, groupMask, switchMask, groupReserved, switchReserved, currentReserved, pwmReserved, reservedAs, reservedOf, writableOf}
+use Rattle.map.specs.Lists.{allFrom}
+use Rattle.map.specs.ListLaws.{all-at}
+use Rattle.burst.specs.Burst.{Burst, busBytes}
+use Rattle.burst.specs.BurstLaws.{AllData, Sendable}
+use Rattle.plan.specs.Plan.{cost, plan, scan}
+use Rattle.plan.specs.Writes.{AllGood}
+use Rattle.plan.specs.Update.{valueAt, allDiffer, updateFor, writeOf, Layout}
+use Rattle.plan.specs.UpdateLaws.{update-good, update-most, update-few}
+use Rattle.host.specs.declared.Record.{Record}
+use Rattle.host.specs.Record.{soundOf}
+use Rattle.host.specs.SoundLaws.{sound-is}
+use Rattle.update.specs.declared.ListAnswer.the-variants.{Listed}
+use Rattle.update.specs.Update.{listSize, writesOf, updateAnswer}
+use Rattle.update.specs.UpdateLaws.{image-layout}
+
+-- the plan after which every writable address differs, of each member
+full-test : ℕ → Bool
+full-test m = leb (cost (plan (allDiffer (writableOf m)) 908)) 699
+
+full-cost : (m : ℕ) → m < 5 → cost (plan (allDiffer (writableOf m)) 908) ≤ 699
+unfolding full-test allFrom plan scan writableOf reservedOf reservedAs kindOf linesOf columnsOf pwmReserved numberIn dotIn hasColumn currentReserved switchReserved switchMask noSink groupReserved groupMask firstMask firstMasks
+full-cost m h = leb-true (cost (plan (allDiffer (writableOf m)) 908)) 699 (all-at full-test 0 5 refl m (omega arith) h)
+
+-- every transaction has data
+good-data : (ok : ℕ → Bool) (bs : List Burst) → AllGood ok 908 (map writeOf bs) → AllData bs
+good-data ok [] g = tt
+good-data ok (b ∷ bs) g = (g .0 .some, good-data ok bs (g .1))
+
+module _ (r : Record) (e : soundOf r ≡ true) where
+  layout : Layout (writableOf (r .member)) 908 (r .settings)
+  layout = image-layout (r .member) (r .settings) (sound-is r e .settings)
+
+  -- t is at most 702
+  pub bus-most : busBytes (writesOf r) ≤ 702
+  unfolding writesOf
+  bus-most = omega (arith, update-most (writableOf (r .member)) 908 (r .settings) layout (valueAt (r .image)), full-cost (r .member) (sound-is r e .settings .member))
+
+  -- n is at most a third of t
+  pub writes-few : 3 * length (writesOf r) ≤ busBytes (writesOf r)
+  unfolding writesOf
+  writes-few = update-few (writableOf (r .member)) 908 (r .settings) layout (valueAt (r .image))
+
+  -- and the list has 1,174 bytes at most,
+  pub size-most : listSize (writesOf r) ≤ 1174
+  size-most = omega (arith, bus-most, writes-few)
+
+  -- so that a buffer of 1,174 bytes is never refused.
+  pub always-room : (size : ℕ) → 1174 ≤ size → updateAnswer r size ≡ Listed (length (writesOf r)) (busBytes (writesOf r))
+  unfolding updateAnswer
+  always-room size h = rw (e, le-leb (listSize (writesOf r)) size (omega (arith, size-most))) refl
+
+  -- Every length and size fits two bytes: the list reads back as it was written.
+  pub update-sendable : Sendable (writesOf r)
+  unfolding writesOf
+  update-sendable = record {
+    some = good-data (writableOf (r .member)) (writesOf r) (update-good (writableOf (r .member)) 908 (r .settings) layout (valueAt (r .image)));
+    short = omega (arith, bus-most);
+  }
+
+  -- "no update names an address outside the member's writable ones"
+  pub names-writable : AllGood (writableOf (r .member)) 908 (map writeOf (writesOf r))
+  unfolding writesOf
+  names-writable = update-good (writableOf (r .member)) 908 (r .settings) layout (valueAt (r .image))
