@@ -1,15 +1,15 @@
 -- Bytes stored one after the other: copies, sizes and transactions behind one another.
 -- Assumes nothing.
-use mathlib.Core.Path.{_≡_, refl, sym, ap, subst, _∙_}
+use mathlib.Core.Path.{_≡_, refl, sym, ap, _∙_}
 use mathlib.Core.List.{List, [], _∷_, _++_, map, append-assoc, append-nil}
-use Prim.Native.Nat.{ℕ, zero, suc, _+_, _-_, _*_, _/_, _%_, _≤_, _<_}
+use Prim.Native.Nat.{ℕ, suc, _+_, _-_, _*_, _≤_, _<_}
 use native.Mathlib.Nat.{zero-add, add-zero, add-suc, suc-add}
 use native.Mathlib.Numerals.{add-one}
 use native.Mathlib.Omega.{arith}
-use lib.ListN.{length, getD, take, drop, set, length-append, length-take, length-drop, length-set, drop-of-length-le}
+use lib.ListN.{length, getD, take, drop, set, length-drop, length-set, drop-of-length-le}
 use lib.Seq.{sets, length-sets, sets-eq, take-suc, getD-drop, length-take-le, take-all, drop-drop}
-use Rattle.burst.specs.Burst.{Burst, size16, sizeBytes, sizesBytes, putSize, headFirst, headSecond, transactionOf, joined}
-use Rattle.plan.specs.Plan.{Write, cost}
+use Rattle.burst.specs.Burst.{Burst, sizeBytes, sizesBytes, putSize, headFirst, headSecond, transactionOf, joined}
+use Rattle.plan.specs.Plan.{Write}
 use Rattle.plan.specs.Update.{dataOf, storeAll}
 use Rattle.plan.specs.Follow.{store-append}
 use Rattle.update.specs.Runs.{transactionLengths, transactionBytes, storeWrites, firstRun}

@@ -1,14 +1,14 @@
 -- The fixed lists of Reset and the Clears, and the records that the public calls give back.
 -- Assumes nothing.
-use mathlib.Core.Path.{_≡_, refl, sym, ap, ap₂, _∙_}
+use mathlib.Core.Path.{_≡_, refl, ap, ap₂, _∙_}
 use mathlib.Core.Bool.{true, false, cond}
 use mathlib.Core.List.{List, [], _∷_, _++_}
-use Prim.Native.Nat.{ℕ, _+_, _<_, _≤_}
+use Prim.Native.Nat.{ℕ, _<_, _≤_}
 use native.Mathlib.Nat.{zero-add}
 use native.Mathlib.Omega.{arith}
 use borrow.Author.Tests.{le-leb, lt-leb}
 use lib.ListN.{length, set, drop}
-use lib.Seq.{sets, sets-eq}
+use lib.Seq.{sets-eq}
 use Rattle.map.specs.declared.refusals.Refusal.the-variants.{Unsound, BufferShort}
 use Rattle.map.specs.Images.{resetImage}
 use Rattle.burst.specs.Burst.{putSize, headFirst, headSecond, transactionOf, listOf, encode}
@@ -16,7 +16,6 @@ use Rattle.host.specs.declared.Record.{Record}
 use Rattle.host.specs.Record.{recordOf, soundOf}
 use Rattle.update.specs.declared.ListAnswer.{ListAnswer}
 use Rattle.update.specs.declared.ListAnswer.the-variants.{Listed, Refused}
-use Rattle.update.specs.declared.Updated.{Updated}
 use Rattle.update.specs.Update.{isListed, over, updateAnswer, updateImage, updateOf, commandWrite, commandAnswer, commandBuffer, chipResetOf, clearOf}
 
 -- three sizes and three bytes are the list of one write of one byte

@@ -1,8 +1,8 @@
 -- The invariants of the loops that write the lengths and the transactions.
 -- Assumes nothing.
-use mathlib.Core.Path.{_≡_, refl, sym, ap, subst, _∙_}
-use mathlib.Core.List.{List, [], _∷_, _++_}
-use Prim.Native.Nat.{ℕ, suc, _+_, _-_, _*_, _≤_, _<_}
+use mathlib.Core.Path.{_≡_, refl, sym, ap, _∙_}
+use mathlib.Core.List.{List, [], _++_}
+use Prim.Native.Nat.{ℕ, _+_, _-_, _*_, _≤_, _<_}
 use native.Mathlib.Omega.{arith}
 use lib.ListN.{length, take, drop, length-append}
 use lib.Seq.{sets, length-sets}
@@ -12,7 +12,7 @@ use Rattle.plan.specs.Writes.{cost-append}
 use Rattle.plan.specs.Update.{dataOf}
 use Rattle.plan.specs.RunLaws.{one}
 use Rattle.update.specs.Runs.{marksOf, Pair, FirstDiffering, RunEnd, transactionLengths, transactionBytes, storeWrites}
-use Rattle.update.proofs.Turns.{Going, going-start, going-below, going-more, going-taken, going-cost}
+use Rattle.update.proofs.Turns.{Going, going-start, going-more, going-taken, going-cost}
 use Rattle.update.proofs.Bytes.{sets-append, lengths-append, sizes-length, bytes-append, transaction-length, stores-append, part-written}
 
 module _ (m : ℕ) (settings image : List ℕ) where

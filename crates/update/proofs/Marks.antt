@@ -1,21 +1,21 @@
 -- What the code sees of an address and what its mark is, and the steps of the write that has come to e.
 -- Assumes nothing.
-use mathlib.Core.Path.{_≡_, refl, sym, ap, ap₂, subst, _∙_}
-use mathlib.Core.Logic.{_⊎_, inl, inr}
-use mathlib.Core.Bool.{Bool, true, false, cond, not, false≢true, true≢false}
+use mathlib.Core.Path.{_≡_, refl, sym, ap₂, subst, _∙_}
+use mathlib.Core.Logic.{inl, inr}
+use mathlib.Core.Bool.{Bool, true, false, not, false≢true, true≢false}
 use mathlib.Core.List.{List}
 use Prim.Native.Nat.{ℕ, suc, _+_, _-_, _≤_, _<_}
 use native.Mathlib.Decide.{decLt, ℕ-discrete}
 use native.Mathlib.Omega.{arith}
-use borrow.Author.Tests.{le-leb, lt-leb, eq-eqb, ne-eqb, eqb-true, eqb-false}
-use lib.Dec.{leb, eqb}
-use lib.ListN.{length, getD}
+use borrow.Author.Tests.{le-leb, lt-leb, eq-eqb, ne-eqb, eqb-true}
+use lib.Dec.{eqb}
+use lib.ListN.{getD}
 use Rattle.map.specs.Map.{writableOf}
 use Rattle.map.specs.ByteLaws.{writable-below}
-use Rattle.plan.specs.Plan.{Mark, hole, clean, dirty, reach}
-use Rattle.plan.specs.Update.{valueAt, markAt, marksFor}
+use Rattle.plan.specs.Plan.{hole, clean, dirty}
+use Rattle.plan.specs.Update.{valueAt, markAt}
 use Rattle.plan.specs.UpdateLaws.{marks-at}
-use Rattle.plan.specs.RunLaws.{Quiet, Closed, Extends, extends-none, extends-more, extends-over}
+use Rattle.plan.specs.RunLaws.{Closed, Extends, extends-more, extends-over}
 use Rattle.update.specs.Runs.{marksOf, Pair, differsAt, FirstDiffering, Further, RunEnd}
 
 module _ (m : ℕ) (settings image : List ℕ) where

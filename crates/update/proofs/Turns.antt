@@ -1,15 +1,14 @@
 -- One turn of the loops that go write by write.
 -- Assumes nothing.
 use mathlib.Core.Path.{_≡_, refl, sym, ap, subst, _∙_}
-use mathlib.Core.List.{List, [], _∷_, _++_}
+use mathlib.Core.List.{List, [], _++_}
 use Prim.Native.Nat.{ℕ, suc, _+_, _-_, _*_, _≤_, _<_}
 use native.Mathlib.Decide.{decLt}
 use native.Mathlib.Numerals.{add-one}
 use native.Mathlib.Omega.{arith}
-use lib.ListN.{length, getD, take, drop, length-append, take-append-drop}
+use lib.ListN.{length, take, drop, length-append, take-append-drop}
 use lib.Seq.{take-at, take-take}
-use Rattle.map.specs.Map.{writableOf}
-use Rattle.plan.specs.Plan.{Mark, clean, dirty, Write, writing, Scan, cost, costBy, scan, plan}
+use Rattle.plan.specs.Plan.{Write, writing, cost, scan, plan}
 use Rattle.plan.specs.Writes.{cost-append}
 use Rattle.plan.specs.RunLaws.{one, Quiet, Settled, settled-start, settled-run, settled-prefix}
 use Rattle.update.specs.Runs.{marksOf, Pair, FirstDiffering, RunEnd, Counted}

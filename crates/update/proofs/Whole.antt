@@ -8,28 +8,26 @@ use native.Mathlib.Nat.{zero-add}
 use native.Mathlib.Decide.{ℕ-discrete}
 use native.Mathlib.Omega.{arith}
 use borrow.Author.Tests.{eq-eqb, ne-eqb, le-leb, lt-leb}
-use lib.Dec.{leb, eqb}
+use lib.Dec.{eqb}
 use lib.ListN.{length, getD, take, drop, length-append, length-map}
 use lib.Seq.{sets, length-sets, sets-eq, take-suc, take-length, length-take-le}
 use Rattle.map.specs.declared.refusals.Refusal.the-variants.{Unsound}
-use Rattle.map.specs.Map.{linesOf, columnsOf, writableOf}
-use Rattle.map.specs.KindTable.{kindTable}
+use Rattle.map.specs.Map.{writableOf}
 use Rattle.burst.specs.Burst.{Burst, sizeBytes, sizesBytes, transactionOf, joined, sum, busBytes, encode, listOf}
 use Rattle.burst.specs.BurstLaws.{encode-length}
 use Rattle.plan.specs.Lists.{All, all-append}
 use Rattle.plan.specs.Plan.{Write, cost, plan}
 use Rattle.plan.specs.Writes.{Good, AllGood, cost-append}
-use Rattle.plan.specs.Update.{valueAt, onBy, dataOf, enable, updateBy, updateFor, storeAll, Layout}
+use Rattle.plan.specs.Update.{valueAt, onBy, dataOf, enable, updateFor, storeAll, Layout}
 use Rattle.plan.specs.UpdateLaws.{plan-ok, data-length}
 use Rattle.plan.specs.Follow.{store-append}
 use Rattle.host.specs.declared.Record.{Record}
-use Rattle.host.specs.Record.{recordOf, soundOf}
+use Rattle.host.specs.Record.{soundOf}
 use Rattle.host.specs.SoundLaws.{Sound, sound-is}
-use Rattle.update.specs.declared.ListAnswer.{ListAnswer}
 use Rattle.update.specs.declared.ListAnswer.the-variants.{Listed, Short, Refused}
-use Rattle.update.specs.Update.{isListed, listSize, over, writesOf, updateAnswer, updateImage, updateBuffer}
+use Rattle.update.specs.Update.{listSize, over, writesOf, updateAnswer, updateImage, updateBuffer}
 use Rattle.update.specs.UpdateLaws.{enable-byte, differ-writable, image-layout}
-use Rattle.update.specs.Runs.{marksOf, Pair, Tables, Counted, transactionLengths, transactionBytes, storeWrites, firstRun, firstCount, runCount, runsOf, ListSizes, pendingRuns, listBytes}
+use Rattle.update.specs.Runs.{marksOf, Pair, Counted, transactionLengths, transactionBytes, storeWrites, firstRun, firstCount, runCount, runsOf, ListSizes, pendingRuns, listBytes}
 use Rattle.update.proofs.Bytes.{sets-append, sizes-length, transaction-length}
 
 -- ---- first_count and list_sizes

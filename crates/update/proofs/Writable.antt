@@ -1,11 +1,11 @@
 -- A writable address by the tables that a call reads once.
 -- Assumes nothing.
-use mathlib.Core.Path.{_≡_, refl, sym, ap, _∙_}
+use mathlib.Core.Path.{_≡_, ap, _∙_}
 use mathlib.Core.List.{List}
 use Prim.Native.Nat.{ℕ}
 use lib.Dec.{ltb}
 use Rattle.map.specs.declared.kinds.Kind.{Kind}
-use Rattle.map.specs.Map.{linesOf, columnsOf, kindOf, reservedAs, reservedOf, writableOf}
+use Rattle.map.specs.Map.{linesOf, kindOf, reservedAs, reservedOf, writableOf}
 use Rattle.map.specs.KindTable.{kindIn}
 use Rattle.map.specs.KindLaws.{kind-in-table}
 use Rattle.update.specs.Runs.{Tables}

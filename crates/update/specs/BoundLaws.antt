@@ -3,7 +3,7 @@
 use mathlib.Core.Path.{_≡_, refl}
 use mathlib.Core.Bool.{Bool, true}
 use mathlib.Core.List.{List, [], _∷_, map}
-use Prim.Native.Nat.{ℕ, _*_, _+_, _≤_, _<_}
+use Prim.Native.Nat.{ℕ, _*_, _≤_, _<_}
 use native.Mathlib.Omega.{arith}
 use borrow.Author.Tests.{leb-true, le-leb}
 use lib.Dec.{leb}
@@ -15,7 +15,7 @@ use Rattle.burst.specs.Burst.{Burst, busBytes}
 use Rattle.burst.specs.BurstLaws.{AllData, Sendable}
 use Rattle.plan.specs.Plan.{cost, plan, scan}
 use Rattle.plan.specs.Writes.{AllGood}
-use Rattle.plan.specs.Update.{valueAt, allDiffer, updateFor, writeOf, Layout}
+use Rattle.plan.specs.Update.{valueAt, allDiffer, writeOf, Layout}
 use Rattle.plan.specs.UpdateLaws.{update-good, update-most, update-few}
 use Rattle.host.specs.declared.Record.{Record}
 use Rattle.host.specs.Record.{soundOf}

@@ -1,13 +1,13 @@
 -- Worked examples of whole updates, computed: document 01, "Bench examples", with the records that the calls give.
 -- Assumes nothing.
 use mathlib.Core.Path.{_≡_, refl}
-use mathlib.Core.List.{List, [], _∷_, map}
+use mathlib.Core.List.{[], _∷_, map}
 use Prim.Native.Nat.{ℕ}
 use lib.ListN.{set}
 use Rattle.map.specs.Map.{linesOf, columnsOf, hasColumn, dotIn, numberIn, kindOf, firstMasks, firstMask, noSink, groupMask, switchMask, groupReserved, switchReserved, currentReserved, pwmReserved, reservedAs, reservedOf, writableOf, firstReset, switchBytesOf, switchReset, currentReset, resetAs, resetOf}
 use Rattle.map.specs.Lists.{tableFrom, table}
 use Rattle.map.specs.Images.{resetImage}
-use Rattle.burst.specs.Burst.{Burst, headFirst, headSecond, transactionOf, listOf, encode}
+use Rattle.burst.specs.Burst.{headFirst, headSecond, transactionOf, listOf, encode}
 use Rattle.plan.specs.Plan.{scan, plan}
 use Rattle.plan.specs.Update.{updateFor}
 use Rattle.host.specs.declared.Record.{Record}

@@ -47,7 +47,15 @@ pub fn update(mut r: Record, buffer: &mut [u8]) -> Updated
     ensures { λ _. ⌜ now (buffer .exit) ≡ updateBuffer r (now (buffer .entry)) ⌝ }
 {
     let mut image = r.image;
-    let answer = lists::update(r.member, r.bus, r.pins, &r.settings, &r.image, &mut image, buffer);
+    let answer = lists::update(
+        r.member,
+        r.bus,
+        r.pins,
+        &r.settings,
+        &r.image,
+        &mut image,
+        buffer,
+    );
     r.image = image;
     Updated {
         answer: answer,

@@ -1,20 +1,16 @@
+-- `update::clear_opens` meets its contract.
+-- Assumes nothing.
 use Rattle.update.proofs.Fixed.{clear-is}
 use borrow.Author.Needs.{needs}
 use Rattle.update.proofs.clear_opens.Statement.{statement}
 use Rattle.update.proofs.clear_opens.Tie as tie
-use Rattle.update.proofs.clear_opens.Reads as reads
-use Rattle.update.proofs.clear_opens.Lts as lts
-use Rattle.update.proofs.commands.command.Reads as command-reads
 
--- src/lib.rt:87:9
 command-requires : tie.Need-command-requires
 command-requires c κs = search needs
 
--- src/lib.rt:83:1
 same-length : tie.Need-same-length
 same-length c = search needs
 
--- src/lib.rt:83:1
 returns : tie.Need-returns
 returns c = (clear-is _ _ _ (c .before .before .command .ensures .0), c .before .before .command .ensures .1)
 

@@ -1,3 +1,5 @@
+-- `update::commands::command` meets its contract.
+-- Assumes nothing.
 use Rattle.update.proofs.Fixed.{command-unsound, command-short, command-listed}
 use native.Mathlib.Omega.{arith}
 use borrow.Author.Tests.{not-true, not-false}
@@ -6,32 +8,22 @@ use Rattle.host.specs.Record.{recordOf}
 use borrow.Author.Needs.{needs}
 use Rattle.update.proofs.commands.command.Statement.{statement}
 use Rattle.update.proofs.commands.command.Tie as tie
-use Rattle.update.proofs.commands.command.Reads as reads
-use Rattle.update.proofs.commands.command.Lts as lts
-use Rattle.host.proofs.parts_sound.Reads as parts-sound-reads
-use Rattle.update.proofs.commands.put_command.Reads as put-command-reads
 
--- src/commands.rt:40:9
 parts-sound-requires : tie.Need-parts-sound-requires
 parts-sound-requires c κs = search needs
 
--- src/commands.rt:41:9
 returns : tie.Need-returns
 returns c = command-unsound (recordOf (c .before .before .before .before .before .args .member) (c .before .before .before .before .before .args .bus) (c .before .before .before .before .before .args .pins) (c .before .before .before .before .before .args .settings .now) (c .before .before .before .before .before .args .image .now)) (c .before .before .before .before .before .args .buffer .now) (c .before .before .before .before .before .args .address) (c .before .before .before .before .before .args .value) (sym (c .before .parts-sound .ensures) ∙ not-true _ (c .if1 .taken))
 
--- src/commands.rt:44:9
 returns-2 : tie.Need-returns-2
 returns-2 c = command-short (recordOf (c .before .before .before .before .before .before .args .member) (c .before .before .before .before .before .before .args .bus) (c .before .before .before .before .before .before .args .pins) (c .before .before .before .before .before .before .args .settings .now) (c .before .before .before .before .before .before .args .image .now)) (c .before .before .before .before .before .before .args .buffer .now) (c .before .before .before .before .before .before .args .address) (c .before .before .before .before .before .before .args .value) (sym (c .before .before .parts-sound .ensures) ∙ not-false _ (c .before .if1 .left)) (c .if2 .taken)
 
--- src/commands.rt:46:5
 put-command-requires : tie.Need-put-command-requires
 put-command-requires c κs = search needs
 
--- src/commands.rt:27:1
 same-length : tie.Need-same-length
 same-length c = search needs
 
--- src/commands.rt:27:1
 returns-3 : tie.Need-returns-3
 returns-3 c = command-listed (recordOf (c .before .before .before .before .before .before .before .before .before .before .args .member) (c .before .before .before .before .before .before .before .before .before .before .args .bus) (c .before .before .before .before .before .before .before .before .before .before .args .pins) (c .before .before .before .before .before .before .before .before .before .before .args .settings .now) (c .before .before .before .before .before .before .before .before .before .before .args .image .now)) (c .before .before .before .before .before .before .before .before .before .before .args .buffer .now) (c .before .before .before .before .before .before .before .before .before .before .args .address) (c .before .before .before .before .before .before .before .before .before .before .args .value) _ (sym (c .before .before .before .before .before .before .parts-sound .ensures) ∙ not-false _ (c .before .before .before .before .before .if1 .left)) (omega (arith, c .before .before .before .before .if2 .left)) (c .before .before .put-command .ensures)
 

@@ -1,3 +1,5 @@
+-- `update::commands::put_command` meets its contract.
+-- Assumes nothing.
 use Rattle.update.proofs.Fixed.{command-written}
 use native.Mathlib.Omega.{arith}
 use lib.ListN.{length-set}
@@ -6,49 +8,34 @@ use mathlib.Core.Path.{_∙_}
 use borrow.Author.Needs.{needs}
 use Rattle.update.proofs.commands.put_command.Statement.{statement}
 use Rattle.update.proofs.commands.put_command.Tie as tie
-use Rattle.update.proofs.commands.put_command.Reads as reads
-use Rattle.update.proofs.commands.put_command.Lts as lts
-use Rattle.burst.proofs.head_first.Reads as head-first-reads
-use Rattle.burst.proofs.head_second.Reads as head-second-reads
-use Rattle.burst.proofs.put_size.Reads as put-size-reads
 
--- src/commands.rt:18:5
 put-size-requires : tie.Need-put-size-requires
 put-size-requires c κs = search needs
 
--- src/commands.rt:19:5
 put-size-requires-2 : tie.Need-put-size-requires-2
 put-size-requires-2 c κs = search needs
 
--- src/commands.rt:20:5
 put-size-requires-3 : tie.Need-put-size-requires-3
 put-size-requires-3 c κs = search needs
 
--- src/commands.rt:21:17
 head-first-requires : tie.Need-head-first-requires
 head-first-requires c κs = search needs
 
--- src/commands.rt:21:5
 slice-write-buffer : tie.Need-slice-write-buffer
 slice-write-buffer c = search needs
 
--- src/commands.rt:22:17
 head-second-requires : tie.Need-head-second-requires
 head-second-requires c κs = search needs
 
--- src/commands.rt:22:5
 slice-write-buffer-2 : tie.Need-slice-write-buffer-2
 slice-write-buffer-2 c = omega (arith, length-set (c .before .before .before .before .put-size3 .last .0) 6 (c .before .head-first .result), c .before .before .before .before .put-size3 .kept .0, c .before .before .before .before .before .before .before .before .put-size2 .kept .0, c .before .before .before .before .before .before .before .before .before .before .before .before .put-size .kept .0, c .before .before .before .before .before .before .before .before .before .before .before .before .before .before .before .pre)
 
--- src/commands.rt:23:5
 slice-write-buffer-3 : tie.Need-slice-write-buffer-3
 slice-write-buffer-3 c = omega (arith, length-set (c .before .before .before .before .put-size3 .last .0) 6 (c .before .head-first .result), length-set (set (c .before .before .before .before .put-size3 .last .0) 6 (c .before .head-first .result)) 7 (c .head-second .result), c .before .before .before .before .put-size3 .kept .0, c .before .before .before .before .before .before .before .before .put-size2 .kept .0, c .before .before .before .before .before .before .before .before .before .before .before .before .put-size .kept .0, c .before .before .before .before .before .before .before .before .before .before .before .before .before .before .before .pre)
 
--- src/commands.rt:14:1
 same-length : tie.Need-same-length
 same-length c = length-set (set (set (c .before .before .before .before .put-size3 .last .0) 6 (c .before .head-first .result)) 7 (c .head-second .result)) 8 _ ∙ length-set (set (c .before .before .before .before .put-size3 .last .0) 6 (c .before .head-first .result)) 7 _ ∙ length-set (c .before .before .before .before .put-size3 .last .0) 6 _ ∙ c .before .before .before .before .put-size3 .kept .0 ∙ c .before .before .before .before .before .before .before .before .put-size2 .kept .0 ∙ c .before .before .before .before .before .before .before .before .before .before .before .before .put-size .kept .0
 
--- src/commands.rt:14:1
 returns : tie.Need-returns
 returns c = command-written _ _ _ _ _ _ _ _ _ _ (c .before .before .before .before .before .before .before .before .before .before .before .before .put-size .ensures) (c .before .before .before .before .before .before .before .before .put-size2 .ensures) (c .before .before .before .before .put-size3 .ensures) (c .before .head-first .ensures) (c .head-second .ensures) (c .before .before .before .before .before .before .before .before .before .before .before .before .before .before .before .pre)
 

@@ -1,30 +1,23 @@
+-- `update::lists::list_sizes` meets its contract.
+-- Assumes nothing.
 use native.Mathlib.Omega.{arith}
 use Rattle.update.proofs.Whole.{sizes-off, sizes-on}
 use borrow.Author.Needs.{needs}
 use Rattle.update.proofs.lists.list_sizes.Statement.{statement}
 use Rattle.update.proofs.lists.list_sizes.Tie as tie
-use Rattle.update.proofs.lists.list_sizes.Reads as reads
-use Rattle.update.proofs.lists.list_sizes.Lts as lts
-use Rattle.update.proofs.lists.first_count.Reads as first-count-reads
-use Rattle.update.proofs.runs.count_writes.Reads as count-writes-reads
 
--- src/lists.rt:178:9
 first-count-requires : tie.Need-first-count-requires
 first-count-requires c κs = search needs
 
--- src/lists.rt:179:8
 shared-slice-read-if1 : tie.Need-shared-slice-read-if1
 shared-slice-read-if1 c = search needs
 
--- src/lists.rt:180:9
 returns : tie.Need-returns
 returns c = sizes-off _ _ _ _ (c .before .before .first-count .ensures) (c .if1 .taken)
 
--- src/lists.rt:186:9
 count-writes-requires : tie.Need-count-writes-requires
 count-writes-requires c κs = search needs
 
--- src/lists.rt:167:1
 returns-2 : tie.Need-returns-2
 returns-2 c = sizes-on _ _ _ _ _ _ (c .before .before .before .first-count .ensures) (omega (arith, c .before .if1 .left)) (c .count-writes .ensures)
 

@@ -1,13 +1,11 @@
-use mathlib.Core.Path.{_≡_, refl, sym, ap, _∙_}
+-- `update::lists::put_data` meets its contract.
+-- Assumes nothing.
 use native.Mathlib.Omega.{arith}
-use borrow.Author.Needs.{needs}
 use Prim.Native.Nat.{_-_, _≤_}
 use lib.ListN.{drop}
 use Rattle.update.proofs.Bytes.{Copied, copied-none, copied-more, copied-done}
 use Rattle.update.proofs.lists.put_data.Statement.{statement}
 use Rattle.update.proofs.lists.put_data.Tie as tie
-use Rattle.update.proofs.lists.put_data.Reads as reads
-use Rattle.update.proofs.lists.put_data.Lts as lts
 
 abbrev Inv-loop : tie.InvT-loop
 Inv-loop part₀ settings start len i₀ part i = (i ≤ len) × Copied part₀ (drop start settings) 2 i part
@@ -15,43 +13,33 @@ Inv-loop part₀ settings start len i₀ part i = (i ≤ len) × Copied part₀ 
 abbrev μ-loop : tie.MeasureT-loop
 μ-loop part₀ settings start len i₀ part i = len - i
 
--- src/lists.rt:23:5
 loop-holds : tie.Need-loop-holds Inv-loop μ-loop
 loop-holds c = (omega arith, copied-none _ _ _)
 
--- src/lists.rt:24:32
 add-part : tie.Need-add-part Inv-loop μ-loop
 add-part c = omega arith
 
--- src/lists.rt:24:23
 shared-slice-read-part : tie.Need-shared-slice-read-part Inv-loop μ-loop
 shared-slice-read-part c = omega arith
 
--- src/lists.rt:24:14
 add-part-2 : tie.Need-add-part-2 Inv-loop μ-loop
 add-part-2 c = omega arith
 
--- src/lists.rt:24:9
 slice-write-part : tie.Need-slice-write-part Inv-loop μ-loop
 slice-write-part c = omega (arith, c .before .before .loop .inv .1 .size)
 
--- src/lists.rt:25:9
 add-i : tie.Need-add-i Inv-loop μ-loop
 add-i c = omega arith
 
--- src/lists.rt:23:5
 loop-less : tie.Need-loop-less Inv-loop μ-loop
 loop-less c = omega arith
 
--- src/lists.rt:23:5
 loop-again : tie.Need-loop-again Inv-loop μ-loop
 loop-again c = (omega arith, copied-more _ (c .before .before .before .args .settings .now) _ _ (c .before .before .before .args .start) (c .before .before .loop .i) (omega arith) (c .before .before .loop .inv .1))
 
--- src/lists.rt:18:1
 same-length : tie.Need-same-length Inv-loop μ-loop
 same-length c = c .before .loop .inv .1 .size
 
--- src/lists.rt:18:1
 returns : tie.Need-returns Inv-loop μ-loop
 returns c = copied-done _ _ _ _ (c .before .loop .i) (c .before .before .args .len) (omega arith) (c .before .loop .inv .1)
 

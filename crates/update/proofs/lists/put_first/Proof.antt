@@ -1,46 +1,35 @@
-use mathlib.Core.Path.{_≡_, refl, sym, ap, _∙_}
+-- `update::lists::put_first` meets its contract.
+-- Assumes nothing.
 use native.Mathlib.Omega.{arith}
 use borrow.Author.Needs.{needs}
 use borrow.Rule.Slice.PartMut.{same-len-mid}
 use lib.ListN.{length}
 use Prim.Native.Nat.{_-_}
-use Rattle.update.proofs.Bytes.{tail-length, part-written, first-written, first-none, first-part}
+use Rattle.update.proofs.Bytes.{tail-length, first-written, first-none, first-part}
 use Rattle.update.proofs.lists.put_first.Statement.{statement}
 use Rattle.update.proofs.lists.put_first.Tie as tie
-use Rattle.update.proofs.lists.put_first.Reads as reads
-use Rattle.update.proofs.lists.put_first.Lts as lts
-use Rattle.update.proofs.lists.put_transaction.Reads as put-transaction-reads
-use Rattle.update.proofs.lists.take_data.Reads as take-data-reads
 
--- src/lists.rt:111:25
 sub-put-transaction : tie.Need-sub-put-transaction
 sub-put-transaction c = omega arith
 
--- src/lists.rt:111:25
 part-put-transaction-start : tie.Need-part-put-transaction-start
 part-put-transaction-start c = omega arith
 
--- src/lists.rt:111:25
 part-put-transaction-end : tie.Need-part-put-transaction-end
 part-put-transaction-end c = search needs
 
--- src/lists.rt:111:9
 put-transaction-requires : tie.Need-put-transaction-requires
 put-transaction-requires c κs = (rw (tail-length (c .before .before .before .before .args .buffer .now) (c .before .before .before .before .args .at)) (omega arith), omega arith)
 
--- src/lists.rt:112:9
 take-data-requires : tie.Need-take-data-requires
 take-data-requires c κs = (c .before .before .before .before .before .before .before .before .pre .2, c .before .before .before .before .before .before .before .before .pre .1, omega arith)
 
--- src/lists.rt:97:1
 same-length : tie.Need-same-length
 same-length c = same-len-mid (c .before .before .before .before .before .before .before .before .before .args .at) (length (c .before .before .before .before .before .before .before .before .before .args .buffer .now) - c .before .before .before .before .before .before .before .before .before .args .at) (c .before .before .before .before .before .before .before .before .before .args .buffer .now) (c .before .before .before .before .put-transaction .last .0) (c .before .before .before .before .put-transaction .kept .0)
 
--- src/lists.rt:97:1
 returns : tie.Need-returns
 returns c = first-written _ _ _ _ _ (c .before .before .before .before .before .before .before .before .before .args .settings .now) _ _ _ (c .before .before .before .before .before .before .if1 .taken) (first-part _ _ (c .before .before .before .before .before .before .before .before .before .args .settings .now) _ _ _ (c .before .before .before .before .before .before .before .before .before .pre .1) (omega arith) (c .before .before .before .before .put-transaction .ensures)) (c .take-data .ensures)
 
--- src/lists.rt:97:1
 returns-2 : tie.Need-returns-2
 returns-2 c = first-none _ _ _ _ _ _ _ (omega arith)
 

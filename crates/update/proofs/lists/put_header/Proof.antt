@@ -1,40 +1,29 @@
-use mathlib.Core.Path.{_≡_, refl, sym, ap, _∙_}
+-- `update::lists::put_header` meets its contract.
+-- Assumes nothing.
 use native.Mathlib.Omega.{arith}
-use Rattle.burst.specs.Burst.{putSize}
-use Rattle.update.specs.Runs.{firstRun}
 use Rattle.update.proofs.Bytes.{header-first, header-none}
 use borrow.Author.Needs.{needs}
 use Rattle.update.proofs.lists.put_header.Statement.{statement}
 use Rattle.update.proofs.lists.put_header.Tie as tie
-use Rattle.update.proofs.lists.put_header.Reads as reads
-use Rattle.update.proofs.lists.put_header.Lts as lts
-use Rattle.burst.proofs.put_size.Reads as put-size-reads
 
--- src/lists.rt:63:5
 put-size-requires : tie.Need-put-size-requires
 put-size-requires c κs = search needs
 
--- src/lists.rt:64:5
 put-size-requires-2 : tie.Need-put-size-requires-2
 put-size-requires-2 c κs = search needs
 
--- src/lists.rt:66:9
 put-size-requires-3 : tie.Need-put-size-requires-3
 put-size-requires-3 c κs = search needs
 
--- src/lists.rt:59:1
 same-length : tie.Need-same-length
 same-length c = search needs
 
--- src/lists.rt:59:1
 returns : tie.Need-returns
 returns c = header-first _ _ _ _ _ _ _ (c .before .before .before .before .if1 .taken) (c .before .before .before .before .before .before .before .before .before .before .before .put-size .ensures) (c .before .before .before .before .before .before .before .put-size2 .ensures) (c .before .before .put-size3 .ensures)
 
--- src/lists.rt:59:1
 same-length-2 : tie.Need-same-length-2
 same-length-2 c = search needs
 
--- src/lists.rt:59:1
 returns-2 : tie.Need-returns-2
 returns-2 c = header-none _ _ _ _ _ _ (omega arith) (c .before .before .before .before .before .before .before .put-size .ensures) (c .before .before .before .put-size2 .ensures)
 

@@ -1,4 +1,5 @@
-use mathlib.Core.Path.{_≡_, refl, sym, ap, _∙_}
+-- `update::lists::put_writes` meets its contract.
+-- Assumes nothing.
 use native.Mathlib.Omega.{arith}
 use borrow.Author.Needs.{needs}
 use Prim.Native.Nat.{_-_, _≤_}
@@ -7,12 +8,6 @@ use Rattle.update.proofs.Bytes.{tail-length}
 use Rattle.update.proofs.Loops.{Written, written-start, written-room, written-turn, written-done}
 use Rattle.update.proofs.lists.put_writes.Statement.{statement}
 use Rattle.update.proofs.lists.put_writes.Tie as tie
-use Rattle.update.proofs.lists.put_writes.Reads as reads
-use Rattle.update.proofs.lists.put_writes.Lts as lts
-use Rattle.update.proofs.lists.put_transaction.Reads as put-transaction-reads
-use Rattle.update.proofs.lists.take_data.Reads as take-data-reads
-use Rattle.update.proofs.runs.first_differing.Reads as first-differing-reads
-use Rattle.update.proofs.runs.run_end.Reads as run-end-reads
 
 abbrev Inv-loop : tie.InvT-loop
 Inv-loop buffer₀ place bus pins kinds member lines columns settings old image₀ writes from₀ at₀ i₀ buffer image from at i =
@@ -22,79 +17,60 @@ abbrev μ-loop : tie.MeasureT-loop
 μ-loop buffer₀ place bus pins kinds member lines columns settings old image₀ writes from₀ at₀ i₀ buffer image from at i =
     writes - i
 
--- src/lists.rt:138:5
 loop-holds : tie.Need-loop-holds Inv-loop μ-loop
 loop-holds c = (omega arith, written-start _ _ _ _ _ _ _ _ (c .before .before .before .before .pre .2))
 
--- src/lists.rt:139:13
 first-differing-requires : tie.Need-first-differing-requires Inv-loop μ-loop
 first-differing-requires c κs = (c .before .before .before .before .before .before .pre .1 .settings-size, c .before .before .before .before .before .before .pre .1 .image-size, c .before .loop .inv .1 .going .most)
 
--- src/lists.rt:140:79
 add-run-end : tie.Need-add-run-end Inv-loop μ-loop
 add-run-end c = omega (arith, c .first-differing .ensures .most)
 
--- src/lists.rt:140:13
 run-end-requires : tie.Need-run-end-requires Inv-loop μ-loop
 run-end-requires c κs = (c .before .before .before .before .before .before .before .pre .0, c .before .before .before .before .before .before .before .pre .1, omega arith, omega (arith, going-below _ _ _ _ _ _ _ (c .before .before .loop .inv .1 .going) (omega (arith, c .before .before .before .before .before .before .before .pre .3)) (c .first-differing .ensures)))
 
--- src/lists.rt:141:25
 sub-put-transaction : tie.Need-sub-put-transaction Inv-loop μ-loop
 sub-put-transaction c = omega (arith, written-room _ _ _ _ _ (c .before .before .before .before .before .before .before .before .pre .1) _ _ _ _ _ _ _ _ _ _ (c .before .before .before .before .before .before .before .before .args .writes) (c .before .before .before .loop .inv .1) (c .before .first-differing .ensures) (going-below _ _ _ _ _ _ _ (c .before .before .before .loop .inv .1 .going) (omega (arith, c .before .before .before .before .before .before .before .before .pre .3)) (c .before .first-differing .ensures)) (c .run-end .ensures) (omega arith) (c .before .before .before .before .before .before .before .before .pre .4))
 
--- src/lists.rt:141:25
 part-put-transaction-start : tie.Need-part-put-transaction-start Inv-loop μ-loop
 part-put-transaction-start c = omega (arith, written-room _ _ _ _ _ (c .before .before .before .before .before .before .before .before .pre .1) _ _ _ _ _ _ _ _ _ _ (c .before .before .before .before .before .before .before .before .args .writes) (c .before .before .before .loop .inv .1) (c .before .first-differing .ensures) (going-below _ _ _ _ _ _ _ (c .before .before .before .loop .inv .1 .going) (omega (arith, c .before .before .before .before .before .before .before .before .pre .3)) (c .before .first-differing .ensures)) (c .run-end .ensures) (omega arith) (c .before .before .before .before .before .before .before .before .pre .4))
 
--- src/lists.rt:141:25
 part-put-transaction-end : tie.Need-part-put-transaction-end Inv-loop μ-loop
 part-put-transaction-end c = search needs
 
--- src/lists.rt:141:72
 sub-put-transaction-2 : tie.Need-sub-put-transaction-2 Inv-loop μ-loop
 sub-put-transaction-2 c = omega (arith, c .before .run-end .ensures .least)
 
--- src/lists.rt:141:9
 put-transaction-requires : tie.Need-put-transaction-requires Inv-loop μ-loop
 put-transaction-requires c κs = (rw (tail-length (c .before .before .before .before .loop .buffer) (c .before .before .before .before .loop .at)) (omega (arith, written-room _ _ _ _ _ (c .before .before .before .before .before .before .before .before .before .pre .1) _ _ _ _ _ _ _ _ _ _ (c .before .before .before .before .before .before .before .before .before .args .writes) (c .before .before .before .before .loop .inv .1) (c .before .before .first-differing .ensures) (going-below _ _ _ _ _ _ _ (c .before .before .before .before .loop .inv .1 .going) (omega (arith, c .before .before .before .before .before .before .before .before .before .pre .3)) (c .before .before .first-differing .ensures)) (c .before .run-end .ensures) (omega arith) (c .before .before .before .before .before .before .before .before .before .pre .4))), omega (arith, c .before .run-end .ensures .most, c .before .run-end .ensures .least, c .before .before .before .before .before .before .before .before .before .pre .1 .settings-size))
 
--- src/lists.rt:142:43
 sub-take-data : tie.Need-sub-take-data Inv-loop μ-loop
 sub-take-data c = omega (arith, c .before .before .before .before .before .run-end .ensures .least)
 
--- src/lists.rt:142:9
 take-data-requires : tie.Need-take-data-requires Inv-loop μ-loop
 take-data-requires c κs = (c .before .before .before .before .before .before .before .before .loop .inv .1 .image-size, c .before .before .before .before .before .before .before .before .before .before .before .before .before .pre .1 .settings-size, omega (arith, c .before .before .before .before .before .run-end .ensures .most, c .before .before .before .before .before .run-end .ensures .least))
 
--- src/lists.rt:143:15
 sub-at : tie.Need-sub-at Inv-loop μ-loop
 sub-at c = omega (arith, c .before .before .before .before .before .before .run-end .ensures .least)
 
--- src/lists.rt:143:15
 add-at : tie.Need-add-at Inv-loop μ-loop
 add-at c = omega (arith, c .before .before .before .before .before .before .run-end .ensures .most)
 
--- src/lists.rt:143:9
 add-at-2 : tie.Need-add-at-2 Inv-loop μ-loop
 add-at-2 c = omega (arith, written-room _ _ _ _ _ (c .before .before .before .before .before .before .before .before .before .before .before .before .before .before .pre .1) _ _ _ _ _ _ _ _ _ _ (c .before .before .before .before .before .before .before .before .before .before .before .before .before .before .args .writes) (c .before .before .before .before .before .before .before .before .before .loop .inv .1) (c .before .before .before .before .before .before .before .first-differing .ensures) (going-below _ _ _ _ _ _ _ (c .before .before .before .before .before .before .before .before .before .loop .inv .1 .going) (omega (arith, c .before .before .before .before .before .before .before .before .before .before .before .before .before .before .pre .3)) (c .before .before .before .before .before .before .before .first-differing .ensures)) (c .before .before .before .before .before .before .run-end .ensures) (omega arith) (c .before .before .before .before .before .before .before .before .before .before .before .before .before .before .pre .4))
 
--- src/lists.rt:145:9
 add-i : tie.Need-add-i Inv-loop μ-loop
 add-i c = omega arith
 
--- src/lists.rt:138:5
 loop-less : tie.Need-loop-less Inv-loop μ-loop
 loop-less c = omega arith
 
--- src/lists.rt:138:5
 loop-again : tie.Need-loop-again Inv-loop μ-loop
 loop-again c = (omega arith, written-turn _ _ _ _ _ (c .before .before .before .before .before .before .before .before .before .before .before .before .before .before .pre .1) _ _ _ _ _ _ _ _ _ _ _ _ (c .before .before .before .before .before .before .before .before .before .before .before .before .before .before .args .writes) (c .before .before .before .before .before .before .before .before .before .loop .inv .1) (c .before .before .before .before .before .before .before .first-differing .ensures) (going-below _ _ _ _ _ _ _ (c .before .before .before .before .before .before .before .before .before .loop .inv .1 .going) (omega (arith, c .before .before .before .before .before .before .before .before .before .before .before .before .before .before .pre .3)) (c .before .before .before .before .before .before .before .first-differing .ensures)) (c .before .before .before .before .before .before .run-end .ensures) (omega arith) (c .before .before .before .before .before .before .before .before .before .before .before .before .before .before .pre .4) (c .before .before .before .before .put-transaction .ensures) (c .take-data .ensures))
 
--- src/lists.rt:117:1
 same-length : tie.Need-same-length Inv-loop μ-loop
 same-length c = c .before .loop .inv .1 .size
 
--- src/lists.rt:117:1
 returns : tie.Need-returns Inv-loop μ-loop
 returns c = written-done _ _ _ _ _ _ _ _ _ _ _ _ _ (c .before .before .before .before .before .before .args .writes) (omega arith) (c .before .loop .inv .1)
 

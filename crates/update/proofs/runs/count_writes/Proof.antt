@@ -1,14 +1,10 @@
-use mathlib.Core.Path.{_≡_, refl, sym, ap, _∙_}
+-- `update::runs::count_writes` meets its contract.
+-- Assumes nothing.
 use native.Mathlib.Omega.{arith}
-use borrow.Author.Needs.{needs}
 use Prim.Native.Nat.{_-_}
 use Rattle.update.proofs.Turns.{Counting, counting-start, counting-more, counting-done}
 use Rattle.update.proofs.runs.count_writes.Statement.{statement}
 use Rattle.update.proofs.runs.count_writes.Tie as tie
-use Rattle.update.proofs.runs.count_writes.Reads as reads
-use Rattle.update.proofs.runs.count_writes.Lts as lts
-use Rattle.update.proofs.runs.first_differing.Reads as first-differing-reads
-use Rattle.update.proofs.runs.run_end.Reads as run-end-reads
 
 abbrev Inv-loop : tie.InvT-loop
 Inv-loop kinds member lines columns settings image writes₀ bytes₀ at₀ writes bytes at = Counting member settings image writes bytes at
@@ -16,51 +12,39 @@ Inv-loop kinds member lines columns settings image writes₀ bytes₀ at₀ writ
 abbrev μ-loop : tie.MeasureT-loop
 μ-loop kinds member lines columns settings image writes₀ bytes₀ at₀ writes bytes at = 908 - at
 
--- src/runs.rt:122:9
 first-differing-requires : tie.Need-first-differing-requires Inv-loop μ-loop
 first-differing-requires c κs = (c .before .before .before .pre .1 .settings-size, c .before .before .before .pre .1 .image-size, omega arith)
 
--- src/runs.rt:123:5
 loop-holds : tie.Need-loop-holds Inv-loop μ-loop
 loop-holds c = counting-start _ _ _ _ (c .first-differing .ensures)
 
--- src/runs.rt:124:75
 add-run-end : tie.Need-add-run-end Inv-loop μ-loop
 add-run-end c = omega arith
 
--- src/runs.rt:124:13
 run-end-requires : tie.Need-run-end-requires Inv-loop μ-loop
 run-end-requires c κs = (c .before .before .before .before .before .before .pre .0, c .before .before .before .before .before .before .pre .1, omega arith, omega arith)
 
--- src/runs.rt:125:9
 add-writes : tie.Need-add-writes Inv-loop μ-loop
 add-writes c = omega arith
 
--- src/runs.rt:126:18
 sub-bytes : tie.Need-sub-bytes Inv-loop μ-loop
 sub-bytes c = omega (arith, c .run-end .ensures .least)
 
--- src/runs.rt:126:18
 add-bytes : tie.Need-add-bytes Inv-loop μ-loop
 add-bytes c = omega (arith, c .run-end .ensures .most)
 
--- src/runs.rt:126:9
 add-bytes-2 : tie.Need-add-bytes-2 Inv-loop μ-loop
 add-bytes-2 c = omega (arith, c .run-end .ensures .most)
 
--- src/runs.rt:127:9
 first-differing-requires-2 : tie.Need-first-differing-requires-2 Inv-loop μ-loop
 first-differing-requires-2 c κs = (c .before .before .before .before .before .before .before .pre .1 .settings-size, c .before .before .before .before .before .before .before .pre .1 .image-size, c .run-end .ensures .most)
 
--- src/runs.rt:123:5
 loop-less : tie.Need-loop-less Inv-loop μ-loop
 loop-less c = omega (arith, c .before .run-end .ensures .least, c .first-differing2 .ensures .least)
 
--- src/runs.rt:123:5
 loop-again : tie.Need-loop-again Inv-loop μ-loop
 loop-again c = counting-more _ _ _ (c .before .before .before .before .before .before .before .before .pre .1) _ _ _ _ _ (c .before .before .before .loop .inv) (omega arith) (c .before .run-end .ensures) (c .first-differing2 .ensures)
 
--- src/runs.rt:109:1
 returns : tie.Need-returns Inv-loop μ-loop
 returns c = counting-done _ _ _ _ _ _ (c .before .loop .inv) (omega arith)
 

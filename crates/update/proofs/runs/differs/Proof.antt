@@ -1,27 +1,21 @@
-use mathlib.Core.Path.{_≡_, refl, sym, ap, _∙_}
-use native.Mathlib.Omega.{arith}
-use borrow.Author.Tests.{not-true, not-false, le-leb, lt-leb}
+-- `update::runs::differs` meets its contract.
+-- Assumes nothing.
+use borrow.Author.Tests.{le-leb, lt-leb}
 use Rattle.update.specs.Runs.{differsAt}
 use borrow.Author.Needs.{needs}
 use Rattle.update.proofs.runs.differs.Statement.{statement}
 use Rattle.update.proofs.runs.differs.Tie as tie
-use Rattle.update.proofs.runs.differs.Reads as reads
-use Rattle.update.proofs.runs.differs.Lts as lts
 
--- src/runs.rt:32:9
 returns : tie.Need-returns
 unfolding differsAt
 returns c = simp (le-leb 908 _ (c .if1 .taken))
 
--- src/runs.rt:34:5
 shared-slice-read-result : tie.Need-shared-slice-read-result
 shared-slice-read-result c = search needs
 
--- src/runs.rt:34:20
 shared-slice-read-result-2 : tie.Need-shared-slice-read-result-2
 shared-slice-read-result-2 c = search needs
 
--- src/runs.rt:27:1
 returns-2 : tie.Need-returns-2
 unfolding differsAt
 returns-2 c = simp (lt-leb 908 _ (c .before .before .if1 .left))
