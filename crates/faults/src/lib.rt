@@ -1,0 +1,49 @@
+// Lamp faults: what the fault bytes of a chip say of each lamp.
+//
+// A chip has 67 fault bytes, 064h to 0A6h. 064h says whether some lamp is open (bit 1) and whether some lamp is short (bit 0).
+// 065h to 085h have an open bit for each dot and 086h to 0A6h a short bit, three bytes a line, laid out as the switches. A dot
+// reads 0 sound, 1 open, 2 short, 3 both, 4 where the member has no such dot. The bits of absent dots count for nothing.
+mod answers;
+mod readings;
+
+ghost use mathlib.Core.Path.{_≡_};
+ghost use lib.ListN.{getD};
+ghost use Rattle.faults.specs.Faults.{answerNumbers, faultsAnswer, faultsResult};
+use map::Refusal;
+
+pub enum Answer {
+    // whether 064h agrees with the open bits and with the short bits of the member's dots
+    Read {
+        opens_agree: bool,
+        shorts_agree: bool,
+    },
+    Refused(Refusal),
+}
+
+// 0 where Faults is accepted, else the refusal's number.
+pub fn answer_number(answer: Answer) -> u8
+    ensures { λ r. ⌜ r ≡ getD (answerNumbers answer) 0 0 ⌝ }
+{
+    match answer {
+        Answer::Read {
+            opens_agree: _,
+            shorts_agree: _,
+        } => 0,
+        Answer::Refused(refusal) => map::refusal_number(refusal),
+    }
+}
+
+// The readings of 198 dots, by their numbers, go to the front of the result; a refusal leaves every byte of it as it is.
+pub fn faults(member: usize, bytes: &[u8], result: &mut [u8]) -> Answer
+    ensures { λ r. ⌜ r ≡ faultsAnswer member (now (bytes .entry)) (now (result .entry)) ⌝ }
+    ensures { λ _. ⌜ now (result .exit) ≡ faultsResult member (now (bytes .entry)) (now (result .entry)) ⌝ }
+{
+    let checked = answers::checked(member, bytes.len(), result.len());
+    match checked {
+        map::Answer::Refused(refusal) => Answer::Refused(refusal),
+        map::Answer::Accepted => {
+            let found = readings::read_all(member, bytes, result);
+            answers::read(bytes[0], found.opens, found.shorts)
+        }
+    }
+}
