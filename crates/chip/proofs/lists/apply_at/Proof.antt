@@ -1,0 +1,79 @@
+-- `chip::lists::apply_at` meets its contract.
+-- Assumes nothing.
+use Rattle.chip.proofs.Steps.{applies-write, applies-none, write-small, part-small}
+use borrow.Author.Needs.{needs}
+use Rattle.chip.proofs.lists.apply_at.Statement.{statement}
+use Rattle.chip.proofs.lists.apply_at.Tie as tie
+
+shared-slice-read-decode : tie.Need-shared-slice-read-decode
+shared-slice-read-decode c = search needs
+
+add-decode : tie.Need-add-decode
+add-decode c = search needs
+
+shared-slice-read-decode-2 : tie.Need-shared-slice-read-decode-2
+shared-slice-read-decode-2 c = search needs
+
+decode-requires : tie.Need-decode-requires
+decode-requires c κs = search needs
+
+add-from : tie.Need-add-from
+add-from c = search needs
+
+add-to : tie.Need-add-to
+add-to c = search needs
+
+enum-known-transaction : tie.Need-enum-known-transaction
+enum-known-transaction c = search needs
+
+sub-hear : tie.Need-sub-hear
+sub-hear c = search needs
+
+part-hear-start : tie.Need-part-hear-start
+part-hear-start c = search needs
+
+part-hear-end : tie.Need-part-hear-end
+part-hear-end c = search needs
+
+hear-requires : tie.Need-hear-requires
+hear-requires c κs =
+    let s = c .before .before .before .before .before .before .before .before .before in
+    (
+      s .pre .0,
+      s .pre .1,
+      s .pre .2,
+      write-small _ _ _ _ _ _ (c .before .before .before .before .before .decode .ensures) (c .before .before .before .transaction .given .1),
+      part-small _ _ (s .args .list .now) (s .pre .3) (s .pre .4) (s .pre .5),
+    )
+
+enum-told : tie.Need-enum-told
+enum-told c = search needs
+
+returns : tie.Need-returns
+returns c =
+    let s = c .before .before .before .before .before .before .before .before .before .before in
+    applies-write _ _ _ _ _ _ _ (s .pre .3) _ _ _ (c .before .before .before .before .before .before .decode .ensures) (c .before .before .before .before .transaction .given .1) (c .hear .ensures)
+
+returns-2 : tie.Need-returns-2
+returns-2 c =
+    let s = c .before .before .before .before .before .before in
+    applies-none _ _ _ (s .args .at) _ (s .args .list .now) _ (s .pre .3) _ (c .before .before .decode .ensures) (c .enum-told .given .1)
+
+pub apply-at-spec : {M : Type 1} → statement M
+apply-at-spec =
+    tie.close
+    (tie.spec
+    shared-slice-read-decode
+    add-decode
+    shared-slice-read-decode-2
+    decode-requires
+    add-from
+    add-to
+    enum-known-transaction
+    sub-hear
+    part-hear-start
+    part-hear-end
+    hear-requires
+    enum-told
+    returns
+    returns-2)

@@ -1,0 +1,21 @@
+-- `showlist::text::put_address` meets its contract.
+-- Assumes nothing.
+use Rattle.showlist.proofs.Steps.{address-put}
+use borrow.Author.Needs.{needs}
+use Rattle.showlist.proofs.text.put_address.Statement.{statement}
+use Rattle.showlist.proofs.text.put_address.Tie as tie
+
+digit-of-requires : tie.Need-digit-of-requires
+digit-of-requires c κs = search needs
+
+put-requires : tie.Need-put-requires
+put-requires c κs = search needs
+
+put-byte-requires : tie.Need-put-byte-requires
+put-byte-requires c κs = search needs
+
+returns : tie.Need-returns
+returns c = address-put _ _ _ _ _ _ _ _ (c .before .before .before .digit-of .ensures) (c .before .before .put .ensures) (c .put-byte .ensures)
+
+pub put-address-spec : {M : Type 1} → statement M
+put-address-spec = tie.close (tie.spec digit-of-requires put-requires put-byte-requires returns)
