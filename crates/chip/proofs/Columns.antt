@@ -82,32 +82,42 @@ switch-in n x h = rw (lt-ltb (x / 3) n (omega arith)) (sym (every-switch (x % 3)
 
 -- ---- by ranges
 
-module _ (m n cs a : ℕ) (lines : n ≡ linesOf m) (columns : cs ≡ columnsOf m) where
+-- r is what the code has for the address a
+module _ (m n cs a r : ℕ) (lines : n ≡ linesOf m) (columns : cs ≡ columnsOf m) where
   few : n ≤ 11
   few = omega (arith, lines-most m)
 
-  pub mask-first : a < 0x00C → reservedAs Config m n cs a ≡ reservedOf m a
-  mask-first h = rw (lines, columns) (sym (reserved-as m a Config (kind-first a h)))
+  pub mask-first : r ≡ reservedAs Config m n cs a → a < 0x00C → r ≡ reservedOf m a
+  mask-first e h = e ∙ rw (lines, columns) (sym (reserved-as m a Config (kind-first a h)))
 
-  pub mask-group : 0x00C ≤ a → a < 0x043 → reservedAs Group m n cs a ≡ reservedOf m a
-  mask-group l h = rw (lines, columns) (sym (reserved-as m a Group (kind-group a l h)))
+  as-group : 0x00C ≤ a → a < 0x043 → reservedAs Group m n cs a ≡ reservedOf m a
+  as-group l h = rw (lines, columns) (sym (reserved-as m a Group (kind-group a l h)))
 
-  pub mask-switch : 0x043 ≤ a → a < 0x064 → reservedAs Switch m n cs a ≡ reservedOf m a
-  mask-switch l h = rw (lines, columns) (sym (reserved-as m a Switch (kind-switch a l h)))
+  pub mask-group : r ≡ reservedAs Group m n cs a → 0x00C ≤ a → a < 0x043 → r ≡ reservedOf m a
+  mask-group e l h = e ∙ as-group l h
+
+  as-switch : 0x043 ≤ a → a < 0x064 → reservedAs Switch m n cs a ≡ reservedOf m a
+  as-switch l h = rw (lines, columns) (sym (reserved-as m a Switch (kind-switch a l h)))
+
+  pub mask-switch : r ≡ reservedAs Switch m n cs a → 0x043 ≤ a → a < 0x064 → r ≡ reservedOf m a
+  mask-switch e l h = e ∙ as-switch l h
 
   -- the hole behind the currents is like a dot of a line that no member has
-  pub mask-current : 0x100 ≤ a → a < 0x200 → reservedAs Current m n cs a ≡ reservedOf m a
+  as-current : 0x100 ≤ a → a < 0x200 → reservedAs Current m n cs a ≡ reservedOf m a
   unfolding reservedAs currentReserved
-  mask-current l h = go (decLt a 0x1C6)
+  as-current l h = go (decLt a 0x1C6)
     where
       go : Dec (a < 0x1C6) → cond (numberIn n cs (a - 0x100)) 0 255 ≡ reservedOf m a
       go (yes u) = rw (lines, columns) (sym (reserved-as m a Current (kind-current a l u)))
       go (no u) = rw (number-past n cs (a - 0x100) (omega (arith, few))) (sym (empty-gap m a (omega arith) h .mask))
 
+  pub mask-current : r ≡ reservedAs Current m n cs a → 0x100 ≤ a → a < 0x200 → r ≡ reservedOf m a
+  mask-current e l h = e ∙ as-current l h
+
   -- so are the addresses beyond 38Bh
-  pub mask-pwm : 0x200 ≤ a → reservedAs Pwm m n cs a ≡ reservedOf m a
+  as-pwm : 0x200 ≤ a → reservedAs Pwm m n cs a ≡ reservedOf m a
   unfolding reservedAs pwmReserved
-  mask-pwm l = go (decLt a 0x38C)
+  as-pwm l = go (decLt a 0x38C)
     where
       go : Dec (a < 0x38C) → cond (numberIn n cs ((a - 0x200) / 2) || numberIn n cs (a - 0x200)) 0 255 ≡ reservedOf m a
       go (yes u) = rw (lines, columns) (sym (reserved-as m a Pwm (kind-pwm a l u)))
@@ -115,30 +125,35 @@ module _ (m n cs a : ℕ) (lines : n ≡ linesOf m) (columns : cs ≡ columnsOf 
           rw (number-past n cs ((a - 0x200) / 2) (omega (arith, few)), number-past n cs (a - 0x200) (omega (arith, few)))
           (sym (empty-past m a (omega arith) .mask))
 
+  pub mask-pwm : r ≡ reservedAs Pwm m n cs a → 0x200 ≤ a → r ≡ reservedOf m a
+  mask-pwm e l = e ∙ as-pwm l
+
   module _ (every : cs ≡ everyColumn) where
-    pub mask-every-group : 0x00C ≤ a → a < 0x043 → groupReserved n everyColumn (a - 0x00C) ≡ reservedOf m a
+    pub mask-every-group : r ≡ groupReserved n everyColumn (a - 0x00C) → 0x00C ≤ a → a < 0x043 → r ≡ reservedOf m a
     unfolding reservedAs
-    mask-every-group l h = ap (λ (x : ℕ). groupReserved n x (a - 0x00C)) (sym every) ∙ mask-group l h
+    mask-every-group e l h = e ∙ ap (λ (x : ℕ). groupReserved n x (a - 0x00C)) (sym every) ∙ as-group l h
 
-    pub mask-every-switch : 0x043 ≤ a → a < 0x064 → switchReserved n everyColumn (a - 0x043) ≡ reservedOf m a
+    pub mask-every-switch : r ≡ switchReserved n everyColumn (a - 0x043) → 0x043 ≤ a → a < 0x064 → r ≡ reservedOf m a
     unfolding reservedAs
-    mask-every-switch l h = ap (λ (x : ℕ). switchReserved n x (a - 0x043)) (sym every) ∙ mask-switch l h
+    mask-every-switch e l h = e ∙ ap (λ (x : ℕ). switchReserved n x (a - 0x043)) (sym every) ∙ as-switch l h
 
-    pub mask-every-current : 0x100 ≤ a → a < 0x200 → cond (ltb a (0x100 + 18 * n)) 0 255 ≡ reservedOf m a
+    pub mask-every-current : r ≡ cond (ltb a (0x100 + 18 * n)) 0 255 → 0x100 ≤ a → a < 0x200 → r ≡ reservedOf m a
     unfolding reservedAs
-    mask-every-current l h =
-        ap (λ (b : Bool). cond b 0 255) (ltb-same a (0x100 + 18 * n) (a - 0x100) (18 * n) (λ u. omega arith) (λ u. omega arith))
+    mask-every-current e l h =
+        e
+        ∙ ap (λ (b : Bool). cond b 0 255) (ltb-same a (0x100 + 18 * n) (a - 0x100) (18 * n) (λ u. omega arith) (λ u. omega arith))
         ∙ sym (every-current n (a - 0x100))
         ∙ ap (λ (x : ℕ). currentReserved n x (a - 0x100)) (sym every)
-        ∙ mask-current l h
+        ∙ as-current l h
 
-    pub mask-every-pwm : 0x200 ≤ a → cond (ltb a (0x200 + 36 * n)) 0 255 ≡ reservedOf m a
+    pub mask-every-pwm : r ≡ cond (ltb a (0x200 + 36 * n)) 0 255 → 0x200 ≤ a → r ≡ reservedOf m a
     unfolding reservedAs
-    mask-every-pwm l =
-        ap (λ (b : Bool). cond b 0 255) (ltb-same a (0x200 + 36 * n) (a - 0x200) (36 * n) (λ u. omega arith) (λ u. omega arith))
+    mask-every-pwm e l =
+        e
+        ∙ ap (λ (b : Bool). cond b 0 255) (ltb-same a (0x200 + 36 * n) (a - 0x200) (36 * n) (λ u. omega arith) (λ u. omega arith))
         ∙ sym (every-pwm n (a - 0x200))
         ∙ ap (λ (x : ℕ). pwmReserved n x (a - 0x200)) (sym every)
-        ∙ mask-pwm l
+        ∙ as-pwm l
 
 pub mask-middle : (m a : ℕ) → 0x064 ≤ a → a < 0x100 → 255 ≡ reservedOf m a
 mask-middle m a l h = sym (empty-middle m a l h .mask)

@@ -391,9 +391,11 @@ good-rest l s n t q b =
     let g = sizes-good l n t (sym q ∙ b) in
     (g .n-small, rest-all l n t g)
 
-pub good-transactions : (l : List ℕ) (s : Sizes) (n t : ℕ) → s ≡ sizesOf l → s ≡ Good n t → cutFrom l (4 + 2 * n) (lengthsFrom l 4 n) ≡ transactions l
+-- every transaction was applied
+pub feeds-all : (m bus pins : ℕ) (l : List ℕ) (s : Sizes) (n t : ℕ) (old new : List ℕ) → s ≡ sizesOf l → s ≡ Good n t →
+    new ≡ applyAll m bus pins old (cutFrom l (4 + 2 * n) (lengthsFrom l 4 n)) → new ≡ applyAll m bus pins old (transactions l)
 unfolding transactions lengths
-good-transactions l s n t q b = rw (sizes-good l n t (sym q ∙ b) .n-is) refl
+feeds-all m bus pins l s n t old new q b e = rw (sizes-good l n t (sym q ∙ b) .n-is) e
 
 pub fed-is : (c : Chip) (l : List ℕ) (x : Answer) (rs : List ℕ) → x ≡ feedAnswer c l →
     rs ≡ cond (accepted x) (applyAll (c .member) (c .bus) (c .pins) (c .registers) (transactions l)) (c .registers) →

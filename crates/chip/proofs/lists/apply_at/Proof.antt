@@ -37,8 +37,7 @@ part-hear-end c = search needs
 
 hear-requires : tie.Need-hear-requires
 hear-requires c κs =
-    let s = c .before .before .before .before .before .before .before .before .before in
-    (
+    let s = c .before .before .before .before .before .before .before .before .before in (
       s .pre .0,
       s .pre .1,
       s .pre .2,

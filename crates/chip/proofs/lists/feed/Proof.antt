@@ -1,8 +1,7 @@
 -- `chip::lists::feed` meets its contract.
 -- Assumes nothing.
-use mathlib.Core.Path.{refl, ap, _∙_}
-use Rattle.chip.specs.Chip.{applyAll}
-use Rattle.chip.proofs.Steps.{feeds-unsound, feeds-bad, feeds-good, good-rest, good-transactions}
+use mathlib.Core.Path.{refl}
+use Rattle.chip.proofs.Steps.{feeds-unsound, feeds-bad, feeds-good, feeds-all, good-rest}
 use borrow.Author.Needs.{needs}
 use Rattle.chip.proofs.lists.feed.Statement.{statement}
 use Rattle.chip.proofs.lists.feed.Tie as tie
@@ -20,11 +19,10 @@ enum-told : tie.Need-enum-told
 enum-told c = search needs
 
 returns-2 : tie.Need-returns-2
-returns-2 c =
-    (
-      feeds-bad _ _ _ _ (c .before .before .before .before .before .pre .1) (c .before .before .before .if1 .left) (c .before .before .read-sizes .ensures) (c .enum-told .given .1),
-      refl,
-    )
+returns-2 c = (
+  feeds-bad _ _ _ _ (c .before .before .before .before .before .pre .1) (c .before .before .before .if1 .left) (c .before .before .read-sizes .ensures) (c .enum-told .given .1),
+  refl,
+)
 
 apply-all-requires : tie.Need-apply-all-requires
 apply-all-requires c κs =
@@ -32,13 +30,11 @@ apply-all-requires c κs =
     (c .before .before .before .before .before .before .before .pre .0, g .0, g .1)
 
 returns-3 : tie.Need-returns-3
-returns-3 c =
-    let read = c .before .before .before .before .before .read-sizes .ensures in
-    let good = c .before .before .before .sizes .given .1 in
-    (
-      feeds-good _ _ _ _ _ _ (c .before .before .before .before .before .before .before .before .pre .1) (c .before .before .before .before .before .before .if1 .left) read good,
-      c .apply-all .ensures ∙ ap (applyAll _ _ _ _) (good-transactions _ _ _ _ read good),
-    )
+returns-3 c = (
+  feeds-good _ _ _ _ _ _ (c .before .before .before .before .before .before .before .before .pre .1) (c .before .before .before .before .before .before .if1 .left)
+      (c .before .before .before .before .before .read-sizes .ensures) (c .before .before .before .sizes .given .1),
+  feeds-all _ _ _ _ _ _ _ _ _ (c .before .before .before .before .before .read-sizes .ensures) (c .before .before .before .sizes .given .1) (c .apply-all .ensures),
+)
 
 pub feed-spec : {M : Type 1} → statement M
 feed-spec =

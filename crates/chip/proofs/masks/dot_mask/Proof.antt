@@ -1,6 +1,5 @@
 -- `chip::masks::dot_mask` meets its contract.
 -- Assumes nothing.
-use mathlib.Core.Path.{_∙_}
 use native.Mathlib.Omega.{arith}
 use Rattle.map.specs.MapLaws.{lines-most}
 use Rattle.chip.proofs.Columns.{mask-current, mask-pwm, mask-every-current, mask-every-pwm}
@@ -19,16 +18,16 @@ from-end-requires c κs = search needs
 
 returns : tie.Need-returns
 returns c =
-    let s = c .before .before .before in
-    c .from-end .ensures ∙ mask-every-current _ _ _ _ (s .pre .0) (s .pre .1) (c .before .if2 .taken) (s .pre .2) (c .before .before .if1 .taken)
+    mask-every-current _ _ _ _ _ (c .before .before .before .pre .0) (c .before .before .before .pre .1) (c .before .if2 .taken) (c .from-end .ensures)
+    (c .before .before .before .pre .2) (c .before .before .if1 .taken)
 
 reserved-as-requires : tie.Need-reserved-as-requires
 reserved-as-requires c κs = search needs
 
 returns-2 : tie.Need-returns-2
 returns-2 c =
-    let s = c .before .before .before in
-    c .reserved-as .ensures ∙ mask-current _ _ _ _ (s .pre .0) (s .pre .1) (s .pre .2) (c .before .before .if1 .taken)
+    mask-current _ _ _ _ _ (c .before .before .before .pre .0) (c .before .before .before .pre .1) (c .reserved-as .ensures)
+    (c .before .before .before .pre .2) (c .before .before .if1 .taken)
 
 mul-from-end-2 : tie.Need-mul-from-end-2
 mul-from-end-2 c = omega (arith, lines-most (c .before .before .args .member))
@@ -41,16 +40,15 @@ from-end-requires-2 c κs = search needs
 
 returns-3 : tie.Need-returns-3
 returns-3 c =
-    let s = c .before .before .before in
-    c .from-end2 .ensures ∙ mask-every-pwm _ _ _ _ (s .pre .0) (s .pre .1) (c .before .if3 .taken) (c .before .before .if1 .left)
+    mask-every-pwm _ _ _ _ _ (c .before .before .before .pre .0) (c .before .before .before .pre .1) (c .before .if3 .taken) (c .from-end2 .ensures)
+    (c .before .before .if1 .left)
 
 reserved-as-requires-2 : tie.Need-reserved-as-requires-2
 reserved-as-requires-2 c κs = search needs
 
 returns-4 : tie.Need-returns-4
 returns-4 c =
-    let s = c .before .before .before in
-    c .reserved-as2 .ensures ∙ mask-pwm _ _ _ _ (s .pre .0) (s .pre .1) (c .before .before .if1 .left)
+    mask-pwm _ _ _ _ _ (c .before .before .before .pre .0) (c .before .before .before .pre .1) (c .reserved-as2 .ensures) (c .before .before .if1 .left)
 
 pub dot-mask-spec : {M : Type 1} → statement M
 dot-mask-spec =

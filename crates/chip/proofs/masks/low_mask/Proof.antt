@@ -1,6 +1,5 @@
 -- `chip::masks::low_mask` meets its contract.
 -- Assumes nothing.
-use mathlib.Core.Path.{_∙_}
 use native.Mathlib.Omega.{arith}
 use Rattle.map.specs.MapLaws.{lines-most}
 use Rattle.chip.proofs.Columns.{mask-first, mask-group, mask-switch, mask-middle, mask-every-group, mask-every-switch}
@@ -16,41 +15,39 @@ reserved-as-requires c κs = search needs
 
 returns-2 : tie.Need-returns-2
 returns-2 c =
-    let s = c .before .before .before in
-    c .reserved-as .ensures ∙ mask-first _ _ _ _ (s .pre .0) (s .pre .1) (c .before .if2 .taken)
+    mask-first _ _ _ _ _ (c .before .before .before .pre .0) (c .before .before .before .pre .1) (c .reserved-as .ensures) (c .before .if2 .taken)
 
 group-mask-requires : tie.Need-group-mask-requires
 group-mask-requires c κs = omega (arith, lines-most (c .before .before .before .before .args .member))
 
 returns-3 : tie.Need-returns-3
 returns-3 c =
-    let s = c .before .before .before .before .before in
-    c .group-mask .ensures
-    ∙ mask-every-group _ _ _ _ (s .pre .0) (s .pre .1) (c .before .if4 .taken) (c .before .before .before .if2 .left) (c .before .before .if3 .taken)
+    mask-every-group _ _ _ _ _ (c .before .before .before .before .before .pre .0) (c .before .before .before .before .before .pre .1) (c .before .if4 .taken)
+    (c .group-mask .ensures) (c .before .before .before .if2 .left) (c .before .before .if3 .taken)
 
 reserved-as-requires-2 : tie.Need-reserved-as-requires-2
 reserved-as-requires-2 c κs = search needs
 
 returns-4 : tie.Need-returns-4
 returns-4 c =
-    let s = c .before .before .before .before .before in
-    c .reserved-as2 .ensures ∙ mask-group _ _ _ _ (s .pre .0) (s .pre .1) (c .before .before .before .if2 .left) (c .before .before .if3 .taken)
+    mask-group _ _ _ _ _ (c .before .before .before .before .before .pre .0) (c .before .before .before .before .before .pre .1) (c .reserved-as2 .ensures)
+    (c .before .before .before .if2 .left) (c .before .before .if3 .taken)
 
 switch-mask-requires : tie.Need-switch-mask-requires
 switch-mask-requires c κs = omega (arith, lines-most (c .before .before .before .before .args .member))
 
 returns-5 : tie.Need-returns-5
 returns-5 c =
-    let s = c .before .before .before .before .before in
-    c .switch-mask .ensures ∙ mask-every-switch _ _ _ _ (s .pre .0) (s .pre .1) (c .before .if5 .taken) (c .before .before .if3 .left) (omega arith)
+    mask-every-switch _ _ _ _ _ (c .before .before .before .before .before .pre .0) (c .before .before .before .before .before .pre .1) (c .before .if5 .taken)
+    (c .switch-mask .ensures) (c .before .before .if3 .left) (omega arith)
 
 reserved-as-requires-3 : tie.Need-reserved-as-requires-3
 reserved-as-requires-3 c κs = search needs
 
 returns-6 : tie.Need-returns-6
 returns-6 c =
-    let s = c .before .before .before .before .before in
-    c .reserved-as3 .ensures ∙ mask-switch _ _ _ _ (s .pre .0) (s .pre .1) (c .before .before .if3 .left) (omega arith)
+    mask-switch _ _ _ _ _ (c .before .before .before .before .before .pre .0) (c .before .before .before .before .before .pre .1) (c .reserved-as3 .ensures)
+    (c .before .before .if3 .left) (omega arith)
 
 pub low-mask-spec : {M : Type 1} → statement M
 low-mask-spec =

@@ -40,12 +40,11 @@ loop-less : tie.Need-loop-less Inv-loop μ-loop
 loop-less c = omega arith
 
 loop-again : tie.Need-loop-again Inv-loop μ-loop
-loop-again c =
-    (
-      omega arith,
-      digits-more _ _ _ _ _ _ (c .before .before .before .before .loop-test .taken) (c .before .before .before .before .before .loop .inv .1) _ _ _ _
+loop-again c = (
+  omega arith,
+  digits-more _ _ _ _ _ _ (c .before .before .before .before .loop-test .taken) (c .before .before .before .before .before .loop .inv .1) _ _ _ _
       (c .before .before .weight .ensures .0) (c .before .digit-of .ensures) (c .put .ensures),
-    )
+)
 
 returns : tie.Need-returns Inv-loop μ-loop
 returns c = digits-all _ _ _ _ _ _ (c .loop-test .left) (c .before .loop .inv .1)
