@@ -11,7 +11,7 @@ use native.Mathlib.Omega.{arith}
 use borrow.Author.Tests.{eq-eqb, ne-eqb, le-leb, lt-leb, not-true, not-false}
 use lib.Dec.{ltb, eqb}
 use lib.ListN.{length, getD, set, take, drop, length-drop, drop-of-length-le}
-use lib.Seq.{drop-cons, take-all, take-nil, length-take-le, getD-take, getD-drop, drop-drop}
+use lib.Seq.{drop-cons, take-all, take-nil, getD-take, getD-drop, drop-drop}
 use Rattle.map.specs.declared.refusals.Answer.{Answer}
 use Rattle.map.specs.declared.refusals.Answer.the-variants.{Accepted, Refused}
 use Rattle.map.specs.declared.refusals.Refusal.{Refusal}
@@ -25,7 +25,7 @@ use Rattle.map.specs.Images.{registersOk, resetImage}
 use Rattle.burst.specs.declared.sizes.Sizes.{Sizes}
 use Rattle.burst.specs.declared.sizes.Sizes.the-variants.{Good, Bad}
 use Rattle.burst.specs.Burst.{size16, lengthsFrom, lengths, cutFrom, transactions, sizesOf, headSelect, headAddress, headWrites}
-use Rattle.burst.specs.BurstLaws.{size-read, lengths-none, lengths-step, sizes-good, sizes-bad, Rest, rest-all, rest-first, rest-next, head-address-small}
+use Rattle.burst.specs.BurstLaws.{lengths-none, lengths-step, sizes-good, sizes-bad, Rest, rest-all, rest-first, rest-next, head-address-small}
 use Rattle.chip.specs.declared.Chip.{Chip}
 use Rattle.chip.specs.declared.Fed.{Fed}
 use Rattle.chip.specs.declared.Opened.{Opened}
@@ -208,10 +208,6 @@ heard-none m on start bytes old h = record { below = omega arith; size = h; same
 rest : (bytes : List ℕ) (i : ℕ) → take (length bytes - i) (drop i bytes) ≡ drop i bytes
 rest bytes i = take-all (length bytes - i) (drop i bytes) (omega (arith, length-drop i bytes))
 
-pub rest-small : (start : ℕ) (bytes : List ℕ) (i : ℕ) → start < 1024 → length bytes < 65536 → i ≤ length bytes →
-    start + i + length (take (length bytes - i) (drop i bytes)) < 0x20000
-rest-small start bytes i s l h = rw (rest bytes i) (omega (arith, length-drop i bytes))
-
 module _ (m : ℕ) (on : Bool) (start : ℕ) (bytes old rs : List ℕ) (i : ℕ) (h : Heard m on start bytes old rs i) where
   -- the byte at i and those behind it
   split : i < length bytes → drop i bytes ≡ getD bytes i 0 ∷ drop (i + 1) bytes
@@ -321,10 +317,6 @@ write-small bus pins h0 h1 t a d e = go (headWrites bus h0 h1 && selected bus pi
     go true q = let same : a ≡ headAddress bus h0 h1 = cc in omega (arith, head-address-small bus h0 h1)
     go false q = let z : _≡_ {A = ℕ} 0 1 = cc in absurd (omega arith)
 
-pub part-small : (q k : ℕ) (l : List ℕ) → 3 ≤ k → k < 65536 → q + k ≤ length l → length (take (q + k - (q + 2)) (drop (q + 2) l)) < 65536
-part-small q k l three h u =
-    rw (length-take-le (q + k - (q + 2)) (drop (q + 2) l) (rw length-drop (omega arith))) (omega arith)
-
 -- ---- the loop over transactions
 
 -- i transactions are applied, and the next one is at `at`
@@ -343,10 +335,10 @@ module _ (m bus pins : ℕ) (l : List ℕ) (n : ℕ) (old rs : List ℕ) (at i :
   next-rest k h e = rw (lengths-step l n i h, ← e) at (a .left)
 
   -- what a transaction has to meet
-  pub applied-next : (k : ℕ) → i < n → k ≡ size16 l (4 + 2 * i) → (3 ≤ k) × (k < 65536) × (at + k ≤ length l)
+  pub applied-next : (k : ℕ) → i < n → k ≡ size16 l (4 + 2 * i) → (3 ≤ k) × (at + k ≤ length l)
   applied-next k h e =
       let r = next-rest k h e in
-      (rest-first l at k _ r, size-read l (4 + 2 * i) k e, omega (arith, r .size))
+      (rest-first l at k _ r, omega (arith, r .size))
 
   pub applied-more : (k : ℕ) (new : List ℕ) → i < n → k ≡ size16 l (4 + 2 * i) → new ≡ apply m bus pins rs (take k (drop at l)) →
       Applied m bus pins l n old new (at + k) (i + 1)

@@ -133,7 +133,7 @@ fn hear_dots(
     first: usize,
     bytes: &[u8],
 )
-    requires { ⌜ (length (now registers) ≡ 908) × (lines ≡ linesOf member) × (columns ≡ columnsOf member) × (0x100 ≤ first) × (first + length (now bytes) < 0x20000) ⌝ }
+    requires { ⌜ (length (now registers) ≡ 908) × (lines ≡ linesOf member) × (columns ≡ columnsOf member) × (0x100 ≤ first) × (first < 1024) ⌝ }
     ensures { λ _. ⌜ now (registers .exit) ≡ hearData member true first (now (bytes .entry)) (now (registers .entry)) ⌝ }
 {
     let mut i: usize = 0;
@@ -157,7 +157,7 @@ pub(crate) fn hear(
     start: usize,
     bytes: &[u8],
 )
-    requires { ⌜ (length (now registers) ≡ 908) × (lines ≡ linesOf member) × (columns ≡ columnsOf member) × (start < 1024) × (length (now bytes) < 65536) ⌝ }
+    requires { ⌜ (length (now registers) ≡ 908) × (lines ≡ linesOf member) × (columns ≡ columnsOf member) × (start < 1024) ⌝ }
     ensures { λ _. ⌜ now (registers .exit) ≡ hearData member (isOn (now (registers .entry))) start (now (bytes .entry)) (now (registers .entry)) ⌝ }
 {
     let on = registers[0x000] % 2 == 1;

@@ -27,7 +27,7 @@ fn apply_at(
     at: usize,
     size: usize,
 )
-    requires { ⌜ (length (now registers) ≡ 908) × (lines ≡ linesOf member) × (columns ≡ columnsOf member) × (3 ≤ size) × (size < 65536) × (at + size ≤ length (now list)) ⌝ }
+    requires { ⌜ (length (now registers) ≡ 908) × (lines ≡ linesOf member) × (columns ≡ columnsOf member) × (3 ≤ size) × (at + size ≤ length (now list)) ⌝ }
     ensures { λ _. ⌜ now (registers .exit) ≡ apply member bus pins (now (registers .entry)) (take size (drop at (now (list .entry)))) ⌝ }
 {
     let transaction = decode(bus, pins, list[at], list[at + 1]);

@@ -1,14 +1,14 @@
 -- Text that is put piece by piece, one lemma for each end of the functions that put it, and for each turn of their loops.
 -- Assumes nothing.
 use mathlib.Core.Path.{_≡_, refl, sym, ap, _∙_}
-use mathlib.Core.Bool.{Bool, true, false, cond}
+use mathlib.Core.Bool.{Bool, true, false, cond, and-false}
 use mathlib.Core.List.{List, [], _∷_, _++_, append-assoc, append-nil}
 use Prim.Native.Nat.{ℕ, zero, suc, _+_, _-_, _*_, _/_, _%_, _^_, _<_, _≤_}
 use native.Mathlib.Nat.{add-zero, sub-zero, zero-add, suc-add}
 use native.Mathlib.Numerals.{add-one}
 use native.Mathlib.Omega.{arith}
 use borrow.Author.Tests.{lt-ltb, le-ltb, le-leb, lt-leb}
-use lib.Dec.{ltb}
+use lib.Dec.{ltb, leb}
 use lib.ListN.{length, getD, set, take, drop, length-append, length-set, length-drop, drop-of-length-le}
 use lib.Seq.{take-suc-set, drop-cons, length-take-le, getD-take, getD-drop, drop-drop, take-nil}
 use Rattle.burst.specs.declared.sizes.Sizes.{Sizes}
@@ -385,21 +385,21 @@ pub shows-long : (l : List ℕ) → 65536 < length l → refusalText ≡ shown l
 unfolding shown
 shows-long l h = rw (lt-leb (length l) 65536 h) refl
 
-pub shows-bad : (l : List ℕ) (s : Sizes) → length l ≤ 65536 → s ≡ sizesOf l → s ≡ Bad → refusalText ≡ shown l
+pub shows-bad : (l : List ℕ) (s : Sizes) → s ≡ sizesOf l → s ≡ Bad → refusalText ≡ shown l
 unfolding shown
-shows-bad l s h q b = rw (le-leb (length l) 65536 h, sizes-bad l (sym q ∙ b)) refl
+shows-bad l s q b = rw (sizes-bad l (sym q ∙ b), and-false (leb (length l) 65536)) refl
 
 module _ (l : List ℕ) (s : Sizes) (n t : ℕ) (read : s ≡ sizesOf l) (good : s ≡ Good n t) where
   facts : GoodSizes l n t
   facts = sizes-good l n t (sym read ∙ good)
 
-  -- what the lines have to meet behind the sizes
-  pub lines-asked : (old mid : List ℕ) (next : ℕ) → length l ≤ 65536 → length old ≡ 196608 → Puts old 0 (sizesText n t) mid next →
+  -- what the lines have to meet behind two sizes
+  pub lines-asked : (old mid : List ℕ) (next x y : ℕ) → length l ≤ 65536 → length old ≡ 196608 → Puts old 0 (sizesText x y) mid next →
       (n < 65536) × Rest l (4 + 2 * n) (lengthsFrom l 4 n) × Room mid next (3 * (length l - (4 + 2 * n)))
-  lines-asked old mid next h e p = (
+  lines-asked old mid next x y h e p = (
     facts .n-small,
     rest-all l n t facts,
-    record { size = p .size ∙ e; fits = omega (arith, p .next, sizes-length n t, facts .size) },
+    record { size = p .size ∙ e; fits = omega (arith, p .next, sizes-length x y, facts .size) },
   )
 
   pub shows-good : (old mid : List ℕ) (next : ℕ) (new : List ℕ) (r : ℕ) → length l ≤ 65536 → Puts old 0 (sizesText n t) mid next →

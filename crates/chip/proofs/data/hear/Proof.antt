@@ -1,14 +1,14 @@
 -- `chip::data::hear` meets its contract.
 -- Assumes nothing.
-use Prim.Native.Nat.{_-_}
+use Prim.Native.Nat.{_+_, _-_, _<_}
 use native.Mathlib.Omega.{arith}
 use lib.ListN.{length}
-use Rattle.chip.proofs.Steps.{Heard, heard-none, rest-small, heard-reset, heard-more, heard-all, heard-deaf, heard-dots}
+use Rattle.chip.proofs.Steps.{Heard, heard-none, heard-reset, heard-more, heard-all, heard-deaf, heard-dots}
 use Rattle.chip.proofs.data.hear.Statement.{statement}
 use Rattle.chip.proofs.data.hear.Tie as tie
 
 abbrev Inv-loop : tie.InvT-loop
-Inv-loop member lines columns registers₀ start bytes on i₀ registers i = Heard member on start bytes registers₀ registers i
+Inv-loop member lines columns registers₀ start bytes on i₀ registers i = Heard member on start bytes registers₀ registers i × (start + i < 1024)
 
 abbrev μ-loop : tie.MeasureT-loop
 μ-loop member lines columns registers₀ start bytes on i₀ registers i = length bytes - i
@@ -17,7 +17,7 @@ element-copy-out-on : tie.Need-element-copy-out-on Inv-loop μ-loop
 element-copy-out-on c = omega arith
 
 loop-holds : tie.Need-loop-holds Inv-loop μ-loop
-loop-holds c = heard-none _ _ _ _ _ (c .before .before .pre .0)
+loop-holds c = (heard-none _ _ _ _ _ (c .before .before .pre .0), omega arith)
 
 add-address : tie.Need-add-address Inv-loop μ-loop
 add-address c = omega arith
@@ -34,16 +34,15 @@ part-hear-dots-end c = omega arith
 hear-dots-requires : tie.Need-hear-dots-requires Inv-loop μ-loop
 hear-dots-requires c κs =
     let s = c .before .before .before .before .before .before .before .before in
-    let v = c .before .before .before .before .before .loop .inv in
-    (v .size, s .pre .1, s .pre .2, omega arith, rest-small _ (s .args .bytes .now) _ (s .pre .3) (s .pre .4) (v .below))
+    (c .before .before .before .before .before .loop .inv .0 .size, s .pre .1, s .pre .2, omega arith, omega arith)
 
 returns : tie.Need-returns Inv-loop μ-loop
 returns c =
-    heard-dots _ _ _ _ _ _ _ (c .before .before .before .before .before .before .loop .inv) _ (c .before .before .before .if2 .taken)
+    heard-dots _ _ _ _ _ _ _ (c .before .before .before .before .before .before .loop .inv .0) _ (c .before .before .before .if2 .taken)
     (c .hear-dots .ensures)
 
 returns-2 : tie.Need-returns-2 Inv-loop μ-loop
-returns-2 c = heard-deaf _ _ _ _ _ _ _ (c .before .before .before .loop .inv) (c .if2 .left) (c .before .if1 .taken)
+returns-2 c = heard-deaf _ _ _ _ _ _ _ (c .before .before .before .loop .inv .0) (c .if2 .left) (c .before .if1 .taken)
 
 shared-slice-read-hear-low : tie.Need-shared-slice-read-hear-low Inv-loop μ-loop
 shared-slice-read-hear-low c = omega arith
@@ -51,11 +50,11 @@ shared-slice-read-hear-low c = omega arith
 hear-low-requires : tie.Need-hear-low-requires Inv-loop μ-loop
 hear-low-requires c κs =
     let s = c .before .before .before .before .before .before .before in
-    (c .before .before .before .before .loop .inv .size, s .pre .1, s .pre .2, c .before .before .if1 .left)
+    (c .before .before .before .before .loop .inv .0 .size, s .pre .1, s .pre .2, c .before .before .if1 .left)
 
 returns-3 : tie.Need-returns-3 Inv-loop μ-loop
 returns-3 c =
-    heard-reset _ _ _ _ _ _ _ (c .before .before .before .before .before .before .loop .inv) _ _
+    heard-reset _ _ _ _ _ _ _ (c .before .before .before .before .before .before .loop .inv .0) _ _
     (c .before .before .before .before .before .loop-test .taken) (c .before .hear-low .ensures .0) (c .if3 .taken) (c .before .hear-low .ensures .1)
 
 add-i : tie.Need-add-i Inv-loop μ-loop
@@ -65,12 +64,14 @@ loop-less : tie.Need-loop-less Inv-loop μ-loop
 loop-less c = omega arith
 
 loop-again : tie.Need-loop-again Inv-loop μ-loop
-loop-again c =
-    heard-more _ _ _ _ _ _ _ (c .before .before .before .before .before .before .loop .inv) _ _
-    (c .before .before .before .before .before .loop-test .taken) (c .before .hear-low .ensures .0) (c .if3 .left) (c .before .hear-low .ensures .1)
+loop-again c = (
+  heard-more _ _ _ _ _ _ _ (c .before .before .before .before .before .before .loop .inv .0) _ _
+      (c .before .before .before .before .before .loop-test .taken) (c .before .hear-low .ensures .0) (c .if3 .left) (c .before .hear-low .ensures .1),
+  omega arith,
+)
 
 returns-4 : tie.Need-returns-4 Inv-loop μ-loop
-returns-4 c = heard-all _ _ _ _ _ _ _ (c .before .loop .inv) (c .loop-test .left)
+returns-4 c = heard-all _ _ _ _ _ _ _ (c .before .loop .inv .0) (c .loop-test .left)
 
 pub hear-spec : {M : Type 1} → statement M
 hear-spec =

@@ -22,7 +22,7 @@ add-address : tie.Need-add-address Inv-loop μ-loop
 add-address c = omega arith
 
 returns : tie.Need-returns Inv-loop μ-loop
-returns c = heard-past _ _ _ _ _ _ _ (c .before .before .loop .inv) (c .if1 .taken)
+returns c = heard-past _ _ _ _ _ _ _ (c .before .before .loop .inv) (omega arith)
 
 element-copy-out-old : tie.Need-element-copy-out-old Inv-loop μ-loop
 element-copy-out-old c = omega arith

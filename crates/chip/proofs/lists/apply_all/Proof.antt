@@ -40,12 +40,12 @@ size-at-requires c κs = search needs
 apply-at-requires : tie.Need-apply-at-requires Inv-loop μ-loop
 apply-at-requires c κs =
     let t = applied-next _ _ _ _ _ _ _ _ _ (c .before .before .before .loop .inv) _ (c .before .before .loop-test .taken) (c .before .size-at .ensures) in
-    (c .before .before .before .loop .inv .size, c .before .before .before .before .before .lines .ensures .0, c .before .before .before .before .columns .ensures, t .0, t .1, t .2)
+    (c .before .before .before .loop .inv .size, c .before .before .before .before .before .lines .ensures .0, c .before .before .before .before .columns .ensures, t .0, t .1)
 
 add-at-2 : tie.Need-add-at-2 Inv-loop μ-loop
 add-at-2 c =
     let t = applied-next _ _ _ _ _ _ _ _ _ (c .before .before .before .before .loop .inv) _ (c .before .before .before .loop-test .taken) (c .before .before .size-at .ensures) in
-    omega (arith, t .2)
+    omega (arith, t .1)
 
 add-i : tie.Need-add-i Inv-loop μ-loop
 add-i c = omega arith

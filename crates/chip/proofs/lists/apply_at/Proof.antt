@@ -1,6 +1,6 @@
 -- `chip::lists::apply_at` meets its contract.
 -- Assumes nothing.
-use Rattle.chip.proofs.Steps.{applies-write, applies-none, write-small, part-small}
+use Rattle.chip.proofs.Steps.{applies-write, applies-none, write-small}
 use borrow.Author.Needs.{needs}
 use Rattle.chip.proofs.lists.apply_at.Statement.{statement}
 use Rattle.chip.proofs.lists.apply_at.Tie as tie
@@ -42,7 +42,6 @@ hear-requires c κs =
       s .pre .1,
       s .pre .2,
       write-small _ _ _ _ _ _ (c .before .before .before .before .before .decode .ensures) (c .before .before .before .transaction .given .1),
-      part-small _ _ (s .args .list .now) (s .pre .3) (s .pre .4) (s .pre .5),
     )
 
 enum-told : tie.Need-enum-told

@@ -1,5 +1,6 @@
 -- `showlist::show::show` meets its contract.
 -- Assumes nothing.
+use native.Mathlib.Omega.{arith}
 use Rattle.showlist.proofs.Steps.{puts-as, shows-long, shows-bad, lines-asked, shows-good}
 use borrow.Author.Needs.{needs}
 use Rattle.showlist.proofs.show.show.Statement.{statement}
@@ -9,7 +10,7 @@ put-refusal-requires : tie.Need-put-refusal-requires
 put-refusal-requires c κs = search needs
 
 returns : tie.Need-returns
-returns c = puts-as _ _ _ _ _ _ (shows-long _ (c .before .before .if1 .taken)) (c .put-refusal .ensures)
+returns c = puts-as _ _ _ _ _ _ (shows-long _ (omega arith)) (c .put-refusal .ensures)
 
 read-sizes-requires : tie.Need-read-sizes-requires
 read-sizes-requires c κs = search needs
@@ -24,14 +25,14 @@ put-refusal-requires-2 : tie.Need-put-refusal-requires-2
 put-refusal-requires-2 c κs = search needs
 
 returns-2 : tie.Need-returns-2
-returns-2 c = puts-as _ _ _ _ _ _ (shows-bad _ _ (c .before .before .before .before .before .if1 .left) (c .before .before .before .before .read-sizes .ensures) (c .before .before .enum-told .given .1))
+returns-2 c = puts-as _ _ _ _ _ _ (shows-bad _ _ (c .before .before .before .before .read-sizes .ensures) (c .before .before .enum-told .given .1))
     (c .put-refusal2 .ensures)
 
 put-sizes-requires : tie.Need-put-sizes-requires
 put-sizes-requires c κs = search needs
 
 put-lines-requires : tie.Need-put-lines-requires
-put-lines-requires c κs = lines-asked _ _ _ _ (c .before .before .before .before .before .before .read-sizes .ensures) (c .before .before .before .before .sizes .given .1) _ _ _
+put-lines-requires c κs = lines-asked _ _ _ _ (c .before .before .before .before .before .before .read-sizes .ensures) (c .before .before .before .before .sizes .given .1) _ _ _ _ _
     (c .before .before .before .before .before .before .before .if1 .left) (c .before .before .before .before .before .before .before .before .before .pre) (c .before .put-sizes .ensures)
 
 returns-3 : tie.Need-returns-3
