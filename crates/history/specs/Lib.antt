@@ -1,0 +1,3 @@
+pub mod Ledger
+pub mod Step
+pub mod History
