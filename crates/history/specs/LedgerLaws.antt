@@ -3,7 +3,7 @@
 use mathlib.Core.Path.{_≡_, refl, sym, ap, _∙_}
 use mathlib.Core.Bool.{Bool, true, false, cond, _&&_}
 use mathlib.Core.List.{List}
-use Prim.Native.Nat.{ℕ, zero, suc}
+use Prim.Native.Nat.{ℕ, zero, suc, _+_}
 use lib.Dec.{leb}
 use lib.ListN.{set}
 use Rattle.map.specs.declared.refusals.Answer.{Answer}
@@ -32,16 +32,17 @@ tested true x = refl
 tested false x = refl
 
 -- two tests of each place of a range are one
-all-both : (f g : ℕ → Bool) (from n : ℕ) → (allFrom f from n && allFrom g from n) ≡ allFrom (λ i. f i && g i) from n
+all-both : (f g : ℕ → Bool) (a n : ℕ) → (allFrom f a n && allFrom g a n) ≡ allFrom (λ i. f i && g i) a n
 unfolding allFrom
-all-both f g from zero = refl
-all-both f g from (suc n) = go (f from) (g from) (allFrom f (suc from) n) (allFrom g (suc from) n) ∙ ap (λ (b : Bool). (f from && g from) && b) (all-both f g (suc from) n)
+all-both f g a zero = refl
+all-both f g a (suc n) =
+    go (f (a + n)) (g (a + n)) (allFrom f a n) (allFrom g a n) ∙ ap (λ (b : Bool). (f (a + n) && g (a + n)) && b) (all-both f g a n)
   where
-    go : (a b c d : Bool) → ((a && c) && (b && d)) ≡ ((a && b) && (c && d))
-    go true true c d = refl
-    go true false true d = refl
-    go true false false d = refl
-    go false b c d = refl
+    go : (x y u v : Bool) → ((x && u) && (y && v)) ≡ ((x && y) && (u && v))
+    go true true u v = refl
+    go true false true v = refl
+    go true false false v = refl
+    go false y u v = refl
 
 choice : (a b : Bool) (new old : List ℕ) → cond (a && b) new old ≡ cond a (cond b new old) old
 choice true b new old = refl
