@@ -2,3 +2,4 @@ pub mod Ledger
 pub mod Step
 pub mod History
 pub mod LedgerLaws
+pub mod WorldLaws
