@@ -3,3 +3,5 @@ pub mod Step
 pub mod History
 pub mod LedgerLaws
 pub mod WorldLaws
+pub mod RivalLaws
+pub mod Theorem

@@ -67,6 +67,15 @@ pub good-named : (m : ℕ) (xs : List Burst) → AllGood (writableOf m) 908 (map
 good-named m [] g = tt
 good-named m (x ∷ xs) g = (omega (arith, g .0 .some, g .0 .fits), good-named m xs (g .1))
 
+-- the front of the buffer is the list, so that the list alone is fed
+pub front : (b p : ℕ) (xs : List Burst) (buffer : List ℕ) → listIn (length xs) (busBytes xs) (over (encode b p xs) buffer) ≡ encode b p xs
+front b p xs buffer =
+    ap (λ (k : ℕ). take k (over (encode b p xs) buffer)) (sym (encode-length b p xs)) ∙ take-front (encode b p xs) (drop (length (encode b p xs)) buffer)
+  where
+    take-front : (x y : List ℕ) → take (length x) (x ++ y) ≡ x
+    take-front [] y = refl
+    take-front (v ∷ x) y = ap (λ (z : List ℕ). v ∷ z) (take-front x y)
+
 -- ---- the invariant
 
 abbrev pub worldOf : ℕ → ℕ → ℕ → List ℕ → List ℕ → List ℕ → World
@@ -173,14 +182,6 @@ module _ (m b p : ℕ) (o : opens m b p ≡ true) where
 
     -- ---- a list that is answered
 
-    -- the front of the buffer is the list, so that the list alone is fed
-    front : (xs : List Burst) (buffer : List ℕ) → take (4 + 2 * length xs + busBytes xs) (over (encode b p xs) buffer) ≡ encode b p xs
-    front xs buffer = ap (λ (k : ℕ). take k (over (encode b p xs) buffer)) (sym (encode-length b p xs)) ∙ take-front (encode b p xs) (drop (length (encode b p xs)) buffer)
-      where
-        take-front : (x y : List ℕ) → take (length x) (x ++ y) ≡ x
-        take-front [] y = refl
-        take-front (v ∷ x) y = ap (λ (z : List ℕ). v ∷ z) (take-front x y)
-
     good : AllGood (writableOf m) 908 (map writeOf (writesOf state))
     good = names-writable state is-so
 
@@ -229,7 +230,7 @@ module _ (m b p : ℕ) (o : opens m b p ≡ true) where
           state = recordOf m b p s (cond (isListed (answer c)) (storeAll (writesOf state) image) image);
           chip = fedBy (answer c) (cond (isListed (answer c)) (over (encode b p (writesOf state)) buffer) buffer) chip;
         })
-        go true = sent-holds (listIn (length (writesOf state)) (busBytes (writesOf state)) (over (encode b p (writesOf state)) buffer)) (front (writesOf state) buffer)
+        go true = sent-holds (listIn (length (writesOf state)) (busBytes (writesOf state)) (over (encode b p (writesOf state)) buffer)) (front b p (writesOf state) buffer)
         go false = stays
 
     reset-call-holds : (buffer : List ℕ) → Holds m b p s (listed (chipResetOf state (length buffer)) (resetBuffer state buffer) chip .world)
@@ -240,7 +241,7 @@ module _ (m b p : ℕ) (o : opens m b p ≡ true) where
         answer c = cond c (Listed 1 3) (Refused Rattle.map.specs.declared.refusals.Refusal.the-variants.BufferShort)
 
         fed : feedOf chip (listIn 1 3 (over (encode b p (commandWrite 0x0A9 0xFF)) buffer)) ≡ record { answer = Rattle.map.specs.declared.refusals.Answer.the-variants.Accepted; chip = newChip m b p }
-        fed = ap (feedOf chip) (front (commandWrite 0x0A9 0xFF) buffer) ∙ feed-reset chip chip-sound
+        fed = ap (feedOf chip) (front b p (commandWrite 0x0A9 0xFF) buffer) ∙ feed-reset chip chip-sound
 
         go : (c : Bool) → Holds m b p s (record {
           state = recordOf m b p s (cond (isListed (answer c)) (resetImage m) image);
