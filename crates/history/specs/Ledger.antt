@@ -9,7 +9,7 @@ use Rattle.map.specs.declared.dots.Field as fields
 use Rattle.map.specs.Map.{isDot, dotNumber, writableOf}
 use Rattle.map.specs.Images.{okByte, imageOk, resetImage}
 use Rattle.map.specs.Lists.{allFrom}
-use Rattle.host.specs.Record.{topLevel, putLevel, putField, sceneCount, sceneDot, sceneLevel, sceneSized, sceneHasDot, sceneFits, putScene}
+use Rattle.host.specs.Record.{topLevel, putLevel, putField, sceneCount, sceneSized, sceneHasDot, sceneFits, putScene}
 use Rattle.history.specs.declared.Ledger.{Ledger}
 use Rattle.history.specs.declared.Request.{Request}
 use Rattle.history.specs.declared.Request.the-variants.{Register, Lamp, Group, Switch, Scene, Reset, PowerLost, Update}

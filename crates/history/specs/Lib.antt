@@ -5,3 +5,4 @@ pub mod LedgerLaws
 pub mod WorldLaws
 pub mod RivalLaws
 pub mod Theorem
+pub mod Lamps

@@ -1,30 +1,31 @@
--- Demand 3 is met: `whole-lists`.
+-- Demand 3 is met: `whole-lists`. And an Update at once after an accepted one has nothing to send: `second-update`.
 -- Assumes nothing.
 use mathlib.Core.Path.{_≡_, refl, sym, ap, ap₂, _∙_, subst}
 use mathlib.Core.Bool.{Bool, true, false, cond, false≢true}
 use mathlib.Core.List.{List, [], _∷_, _++_, map}
-use Prim.Native.Nat.{ℕ, _+_, _*_, _<_, _≤_}
+use Prim.Native.Nat.{ℕ, _≤_}
 use native.Mathlib.Omega.{arith}
 use lib.Dec.{leb}
 use lib.ListN.{length}
 use Rattle.map.specs.declared.refusals.Answer.the-variants.{Accepted}
-use Rattle.map.specs.Refusals.{accepted, openAnswer, opens}
+use Rattle.map.specs.Refusals.{accepted, opens}
 use Rattle.map.specs.RefusalLaws.{opens-pins}
 use Rattle.map.specs.Map.{writableOf}
 use Rattle.map.specs.ByteLaws.{writable-below}
 use Rattle.map.specs.Images.{resetImage}
 use Rattle.burst.specs.Burst.{Burst, nOf, tOf, transactions, burstOf, busBytes, encode}
-use Rattle.burst.specs.BurstLaws.{Sendable, encode-sizes, encode-transactions, encode-n, encode-t}
+use Rattle.burst.specs.BurstLaws.{Sendable, encode-transactions, encode-n, encode-t}
 use Rattle.plan.specs.Writes.{AllGood}
-use Rattle.plan.specs.Update.{valueAt, Same, writeOf}
-use Rattle.plan.specs.Machine.{feedBy, Ready, Best}
+use Rattle.plan.specs.Update.{valueAt, storeAll, writeOf}
+use Rattle.plan.specs.Machine.{Best}
 use Rattle.plan.specs.MachineLaws.{machine-best}
+use Rattle.plan.specs.Again.{update-again}
 use Rattle.host.specs.declared.Record.{Record}
 use Rattle.host.specs.Record.{recordOf, soundOf, openOf}
 use Rattle.host.specs.SoundLaws.{is-sound}
 use Rattle.update.specs.declared.ListAnswer.{ListAnswer}
 use Rattle.update.specs.declared.ListAnswer.the-variants.{Listed, Short, Refused}
-use Rattle.update.specs.Update.{listSize, isListed, over, writesOf, updateAnswer, updateOf, updateBuffer}
+use Rattle.update.specs.Update.{listSize, isListed, over, writesOf, updateAnswer, updateImage, updateOf, updateBuffer}
 use Rattle.update.specs.BoundLaws.{update-sendable, names-writable}
 use Rattle.chip.specs.declared.Chip.{Chip}
 use Rattle.chip.specs.declared.Fed.{Fed}
@@ -34,8 +35,8 @@ use Rattle.history.specs.declared.World.{World}
 use Rattle.history.specs.declared.Request.the-variants.{Update}
 use Rattle.history.specs.Ledger.{entry, wantsOn}
 use Rattle.history.specs.Step.{listIn, fedBy, stepOf}
-use Rattle.history.specs.History.{Call, start, run, worldAfter, entries, ledger, SameWritable, AllWriteWritable, Rival, Updates, updateList, LastUpdate, Demand3, WholeLists}
-use Rattle.history.specs.WorldLaws.{machine, hear-all-is, worldOf, Holds, history-holds, front, update-fed, ready}
+use Rattle.history.specs.History.{Call, start, run, worldAfter, entries, ledger, SameWritable, AllWriteWritable, Rival, Updates, updateList, LastUpdate, WholeLists}
+use Rattle.history.specs.WorldLaws.{machine, hear-all-is, Holds, history-holds, front, update-fed, ready}
 use Rattle.history.specs.RivalLaws.{all-writes, all-good, all-own}
 
 -- ---- an answer
@@ -245,13 +246,45 @@ module _ (m b p : ℕ) (o : opens m b p ≡ true) (calls before : List Call) (bu
           own-bytes = ap tOf (list-is [] u) ∙ encode-t b p sent ready-list ∙ x .bytes;
         }
 
+    -- the record after it, for which there is nothing left to send
+    state-is : worldAfter m b p calls .state ≡ recordOf m b p (ledger m before) (storeAll sent (held .image))
+    unfolding updateOf updateImage
+    state-is =
+        ap (λ (xs : List Call). worldAfter m b p xs .state) (u .calls-are)
+        ∙ ap (λ (w : World). w .state) (run-last before (record { request = Update; lent = buffer }) (start m b p))
+        ∙ ap (λ (w : World). updateOf (w .state) (length buffer) .state) (held .is)
+        ∙ ap (λ (x : ListAnswer). recordOf m b p (ledger m before) (cond (isListed x) (storeAll sent (held .image)) (held .image)))
+        (ap (λ (w : World). updateOf (w .state) (length buffer) .answer) (sym (held .is)) ∙ u .answers)
+
+    nothing-left : writesOf (worldAfter m b p calls .state) ≡ []
+    unfolding writesOf
+    nothing-left =
+        ap writesOf state-is
+        ∙ update-again (writableOf m) 908 (machine m) (ledger m before) (held .image) (held .registers)
+        (ready m b p o (ledger m before) (held .image) (held .registers) (held .settings-fit) (held .image-fit) (held .registers-fit) (held .same))
+
+    answer-again : (size : ℕ) → updateOf (worldAfter m b p calls .state) size .answer ≡ cond (leb 4 size) (Listed 0 0) (Short 4)
+    unfolding updateOf
+    answer-again size =
+        let h = history-holds m b p o calls in
+        ap (λ (w : World). updateAnswer (w .state) size) (h .is)
+        ∙ answer-is m b p o (ledger m calls) (worldAfter m b p calls) h size
+        ∙ ap (λ (xs : List Burst). cond (leb (listSize xs) size) (Listed (length xs) (busBytes xs)) (Short (listSize xs)))
+        (ap (λ (w : World). writesOf (w .state)) (sym (h .is)) ∙ nothing-left)
+
+opened : (m b p : ℕ) → accepted (openOf m b p .answer) ≡ true → opens m b p ≡ true
+unfolding openOf opens
+opened m b p e = e
+
 -- Demand 3
 pub whole-lists : WholeLists
-unfolding openOf opens
 whole-lists m b p e calls = record {
-  names = λ before after buffer n t u. names-so m b p (opened e) calls before buffer n t after u;
-  last = λ before buffer n t u. last-update m b p (opened e) calls before buffer n t u;
+  names = λ before after buffer n t u. names-so m b p (opened m b p e) calls before buffer n t after u;
+  last = λ before buffer n t u. last-update m b p (opened m b p e) calls before buffer n t u;
 }
-  where
-    opened : accepted (openAnswer m b p) ≡ true → opens m b p ≡ true
-    opened q = q
+
+-- A second Update at once sends nothing: its list has no transaction, and asks for 4 bytes of buffer.
+pub second-update : (m b p : ℕ) → accepted (openOf m b p .answer) ≡ true → (calls before : List Call) (buffer : List ℕ) (n t : ℕ) →
+    Updates m b p calls before [] buffer n t → (size : ℕ) →
+    updateOf (worldAfter m b p calls .state) size .answer ≡ cond (leb 4 size) (Listed 0 0) (Short 4)
+second-update m b p e calls before buffer n t u size = answer-again m b p (opened m b p e) calls before buffer n t u size

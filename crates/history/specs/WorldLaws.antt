@@ -3,17 +3,16 @@
 use mathlib.Core.Path.{_≡_, refl, sym, ap, _∙_, subst}
 use mathlib.Core.Bool.{Bool, true, false, cond}
 use mathlib.Core.List.{List, [], _∷_, _++_, map}
-use Prim.Native.Nat.{ℕ, _+_, _*_, _<_, _≤_}
+use Prim.Native.Nat.{ℕ}
 use native.Mathlib.Omega.{arith}
-use borrow.Author.Tests.{leb-true}
 use lib.Dec.{leb}
-use lib.ListN.{length, getD, take, drop}
-use Rattle.map.specs.Refusals.{accepted, openAnswer, opens}
+use lib.ListN.{length, take, drop}
+use Rattle.map.specs.Refusals.{opens}
 use Rattle.map.specs.RefusalLaws.{opens-member}
-use Rattle.map.specs.Map.{resetOf, writableOf}
+use Rattle.map.specs.Map.{writableOf}
 use Rattle.map.specs.ByteLaws.{enable-reset}
 use Rattle.map.specs.Images.{resetImage}
-use Rattle.map.specs.ImageLaws.{Fit, Image, Registers, image-registers}
+use Rattle.map.specs.ImageLaws.{Fit, Image, Registers}
 use Rattle.burst.specs.Burst.{Burst, busBytes, encode}
 use Rattle.burst.specs.BurstLaws.{AllNamed, encode-length}
 use Rattle.plan.specs.Writes.{AllGood}

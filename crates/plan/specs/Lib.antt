@@ -13,4 +13,5 @@ pub mod Machine
 pub mod Heard
 pub mod Follow
 pub mod MachineLaws
+pub mod Again
 pub mod Masked
