@@ -70,6 +70,18 @@ scene-requires c κs = search needs
 settings-of-requires-5 : tie.Need-settings-of-requires-5
 settings-of-requires-5 c κs = search needs
 
+-- src/ledgers.rt:62:27
+enum-told-2 : tie.Need-enum-told-2
+enum-told-2 c = search needs
+
+-- src/ledgers.rt:63:31
+enum-told-3 : tie.Need-enum-told-3
+enum-told-3 c = search needs
+
+-- src/ledgers.rt:64:28
+enum-told-4 : tie.Need-enum-told-4
+enum-told-4 c = search needs
+
 -- src/ledgers.rt:41:1
 returns : tie.Need-returns
 returns c = ?
@@ -94,6 +106,14 @@ returns-5 c = ?
 returns-6 : tie.Need-returns-6
 returns-6 c = ?
 
+-- src/ledgers.rt:41:1
+returns-7 : tie.Need-returns-7
+returns-7 c = ?
+
+-- src/ledgers.rt:41:1
+returns-8 : tie.Need-returns-8
+returns-8 c = ?
+
 pub entered-spec : {M : Type 1} → statement M
 entered-spec =
     tie.close
@@ -113,9 +133,14 @@ entered-spec =
     enum-told
     scene-requires
     settings-of-requires-5
+    enum-told-2
+    enum-told-3
+    enum-told-4
     returns
     returns-2
     returns-3
     returns-4
     returns-5
-    returns-6)
+    returns-6
+    returns-7
+    returns-8)
