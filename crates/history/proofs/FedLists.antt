@@ -19,6 +19,7 @@ use Rattle.update.specs.Update.{listSize, writesOf, updateAnswer, updateOf, com
 use Rattle.chip.specs.declared.Chip.{Chip}
 use Rattle.chip.specs.declared.Fed.{Fed}
 use Rattle.chip.specs.Chip.{feedOf}
+use Rattle.history.specs.declared.CallAnswer as answers
 use Rattle.history.specs.declared.Stepped.{Stepped}
 use Rattle.history.specs.Step.{Within, listIn, fedBy, listed}
 
@@ -52,7 +53,7 @@ module _ (r : Record) (size : ℕ) where
   clear-within = command-within
 
 -- a call that keeps the buffer's length
-pub within-kept : (x y : Updated) (old new : List ℕ) → x ≡ y → length new ≡ length old → Within (y .answer) (length old) → Within (x .answer) (length new)
+pub within-kept : (x y : Updated) (old new : ℕ) → x ≡ y → new ≡ old → Within (y .answer) old → Within (x .answer) new
 within-kept x y old new e k h = rw (e, k) h
 
 -- ---- feeding
@@ -67,6 +68,10 @@ list-length answer n t buffer e h = sym (length-take-le (4 + 2 * n + t) buffer (
 pub fed-listed : (answer : ListAnswer) (n t : ℕ) (buffer : List ℕ) (c : Chip) (fed : Fed) → answer ≡ Listed n t → fed ≡ feedOf c (listIn n t buffer) →
     fed .chip ≡ fedBy answer buffer c
 fed-listed answer n t buffer c fed e f = rw (e, f) refl
+
+pub fed-is : (x : Updated) (buffer : List ℕ) (c fed : Chip) → fed ≡ fedBy (x .answer) buffer c →
+    record { answer = answers.the-variants.List (x .answer); world = record { state = x .state; chip = fed } } ≡ listed x buffer c
+fed-is x buffer c fed e = ap (λ (d : Chip). record { answer = answers.the-variants.List (x .answer); world = record { state = x .state; chip = d } }) e
 
 pub listed-is : (s : Stepped) (x y : Updated) (new buffer : List ℕ) (c : Chip) → s ≡ listed x new c → x ≡ y → new ≡ buffer → s ≡ listed y buffer c
 listed-is s x y new buffer c e u b = e ∙ ap (λ (z : Updated). listed z new c) u ∙ ap (λ (l : List ℕ). listed y l c) b
