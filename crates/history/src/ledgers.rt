@@ -59,6 +59,8 @@ pub(crate) fn entered(member: u8, bytes: [u8; 908], request: Request, lent: &[u8
             state,
         )),
         Request::Scene => settings_of(host::scene(asked, lent)),
-        Request::Reset | Request::PowerLost | Request::Update => bytes,
+        Request::Reset => bytes,
+        Request::PowerLost => bytes,
+        Request::Update => bytes,
     }
 }

@@ -1,51 +1,41 @@
+-- `history::feeding::fed` meets its contract.
+-- Assumes nothing.
+use native.Mathlib.Omega.{arith}
+use Rattle.history.proofs.FedLists.{listed-within, list-length, fed-listed}
 use borrow.Author.Needs.{needs}
 use Rattle.history.proofs.feeding.fed.Statement.{statement}
 use Rattle.history.proofs.feeding.fed.Tie as tie
-use Rattle.history.proofs.feeding.fed.Reads as reads
-use Rattle.history.proofs.feeding.fed.Lts as lts
-use Rattle.chip.proofs.feed.Reads as feed-reads
 
--- src/feeding.rt:20:30
 enum-known-answer : tie.Need-enum-known-answer
 enum-known-answer c = search needs
 
--- src/feeding.rt:21:28
 mul-size : tie.Need-mul-size
-mul-size c = ?
+mul-size c = omega (arith, listed-within _ _ _ _ (c .before .answer .given .1) (c .before .before .before .before .pre))
 
--- src/feeding.rt:21:24
 add-size : tie.Need-add-size
-add-size c = ?
+add-size c = omega (arith, listed-within _ _ _ _ (c .before .answer .given .1) (c .before .before .before .before .pre))
 
--- src/feeding.rt:21:24
 add-size-2 : tie.Need-add-size-2
-add-size-2 c = ?
+add-size-2 c = omega (arith, listed-within _ _ _ _ (c .before .answer .given .1) (c .before .before .before .before .pre))
 
--- src/feeding.rt:22:40
 slice-aggregate-feed : tie.Need-slice-aggregate-feed
-slice-aggregate-feed c = ?
+slice-aggregate-feed c = list-length _ _ _ _ (c .before .before .answer .given .1) (c .before .before .before .before .before .pre)
 
--- src/feeding.rt:22:17
 feed-requires : tie.Need-feed-requires
 feed-requires c κs = search needs
 
--- src/feeding.rt:26:44
 enum-told : tie.Need-enum-told
 enum-told c = search needs
 
--- src/feeding.rt:27:35
 enum-told-2 : tie.Need-enum-told-2
 enum-told-2 c = search needs
 
--- src/feeding.rt:15:1
 returns : tie.Need-returns
-returns c = ?
+returns c = fed-listed _ _ _ _ _ _ (c .before .before .before .before .answer .given .1) (c .before .feed .ensures)
 
--- src/feeding.rt:15:1
 returns-2 : tie.Need-returns-2
 returns-2 c = search needs
 
--- src/feeding.rt:15:1
 returns-3 : tie.Need-returns-3
 returns-3 c = search needs
 

@@ -1,26 +1,21 @@
+-- `history::feeding::update` meets its contract.
+-- Assumes nothing.
+use Rattle.history.proofs.FedLists.{update-within, within-kept, listed-is}
 use borrow.Author.Needs.{needs}
 use Rattle.history.proofs.feeding.update.Statement.{statement}
 use Rattle.history.proofs.feeding.update.Tie as tie
-use Rattle.history.proofs.feeding.update.Reads as reads
-use Rattle.history.proofs.feeding.update.Lts as lts
-use Rattle.history.proofs.feeding.stepped.Reads as stepped-reads
-use Rattle.update.proofs.update.Reads as update-reads
 
--- src/feeding.rt:52:9
 update-requires : tie.Need-update-requires
 update-requires c κs = search needs
 
--- src/feeding.rt:53:5
 stepped-requires : tie.Need-stepped-requires
-stepped-requires c κs = ?
+stepped-requires c κs = within-kept _ _ _ _ (c .before .before .before .update .ensures .0) (c .before .before .before .update .kept .1 .0) (update-within _ _)
 
--- src/feeding.rt:48:1
 same-length : tie.Need-same-length
 same-length c = search needs
 
--- src/feeding.rt:48:1
 returns : tie.Need-returns
-returns c = ?
+returns c = (listed-is _ _ _ _ _ _ (c .stepped .ensures) (c .before .before .before .before .update .ensures .0) (c .before .before .before .before .update .ensures .1), c .before .before .before .before .update .ensures .1)
 
 pub update-spec : {M : Type 1} → statement M
 update-spec = tie.close (tie.spec update-requires stepped-requires same-length returns)

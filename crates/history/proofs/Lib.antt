@@ -1,0 +1,2 @@
+pub mod FedLists
+pub mod Calls
