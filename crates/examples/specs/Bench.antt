@@ -21,7 +21,7 @@ use Rattle.history.specs.Step.{lentAfter}
 use Rattle.history.specs.History.{Call, worldAfter}
 
 -- "000h = 01h, 001h = 58h, Lamp (0, 2, 40h)"
-calls : List Call
+abbrev calls : List Call
 calls =
     record { request = Register 0x000 0x01; lent = [] }
     ∷ record { request = Register 0x001 0x58; lent = [] }
@@ -29,28 +29,35 @@ calls =
     ∷ []
 
 -- the buffer after an Update that follows on these calls
-updated : ℕ → List ℕ
+abbrev updated : ℕ → List ℕ
 updated bus = lentAfter (worldAfter 0 bus 0 calls) Update (replicate 19 0)
 
+-- "03 00 09 00 03 00 03 00 03 00 80 00 01 80 01 58 84 02 40 (hexadecimal)"
+abbrev benchList : List ℕ
+benchList =
+    0x03 ∷ 0x00 ∷ 0x09 ∷ 0x00 ∷ 0x03 ∷ 0x00 ∷ 0x03 ∷ 0x00 ∷ 0x03 ∷ 0x00
+    ∷ 0x80 ∷ 0x00 ∷ 0x01 ∷ 0x80 ∷ 0x01 ∷ 0x58 ∷ 0x84 ∷ 0x02 ∷ 0x40 ∷ []
+
+-- "00 20 01, 00 60 58, 80 A0 40"
+abbrev benchTransactions : List (List ℕ)
+benchTransactions = (0x00 ∷ 0x20 ∷ 0x01 ∷ []) ∷ (0x00 ∷ 0x60 ∷ 0x58 ∷ []) ∷ (0x80 ∷ 0xA0 ∷ 0x40 ∷ []) ∷ []
+
 -- an LP5860 that is on, of which only the registers 202h and a differ
-differing : ℕ → Record
+abbrev differing : ℕ → Record
 differing a = recordOf 0 0 0 (set (set (set (resetImage 0) 0x000 0x01) 0x202 0x11) a 0x22) (set (resetImage 0) 0x000 0x01)
 
--- the settings of a new LP5860 with v at 001h, after Lamp at line l, sink s with level 1234h cut to its width
-lit : ℕ → ℕ → ℕ → ℕ → List ℕ
+-- the settings of a new LP5860 with v at 001h and a level for the dot at line l, sink s
+abbrev lit : ℕ → ℕ → ℕ → ℕ → List ℕ
 lit v l s level = putLevel (set (resetImage 0) 0x001 v) (dotNumber l s) level
 
 pub record Starred : Type 0 where
   -- "5Eh at 001h: 11 lines, mode 3."
   pub lines-of-5E : lineNumber 0x5E ≡ 11
   pub mode-of-5E : dataMode 0x5E ≡ 3
-  -- "000h = 01h, 001h = 58h, Lamp (0, 2, 40h), Update: 03 00 09 00 03 00 03 00 03 00 80 00 01 80 01 58 84 02 40 (hexadecimal)."
-  pub i2c-list : updated 0
-      ≡ 0x03 ∷ 0x00 ∷ 0x09 ∷ 0x00 ∷ 0x03 ∷ 0x00 ∷ 0x03 ∷ 0x00 ∷ 0x03 ∷ 0x00
-      ∷ 0x80 ∷ 0x00 ∷ 0x01 ∷ 0x80 ∷ 0x01 ∷ 0x58 ∷ 0x84 ∷ 0x02 ∷ 0x40 ∷ []
-  -- "SPI transactions of the same: 00 20 01, 00 60 58, 80 A0 40."
-  pub spi-transactions : transactions (updated 1)
-      ≡ (0x00 ∷ 0x20 ∷ 0x01 ∷ []) ∷ (0x00 ∷ 0x60 ∷ 0x58 ∷ []) ∷ (0x80 ∷ 0xA0 ∷ 0x40 ∷ []) ∷ []
+  -- "000h = 01h, 001h = 58h, Lamp (0, 2, 40h), Update:" the list
+  pub i2c-list : updated 0 ≡ benchList
+  -- "SPI transactions of the same:"
+  pub spi-transactions : transactions (updated 1) ≡ benchTransactions
   -- "Chip on, only 202h and 205h differ: one write of 4 data bytes."
   pub one-write : writesOf (differing 0x205) ≡ record { start = 0x202; bytes = 0x11 ∷ 0x00 ∷ 0x00 ∷ 0x22 ∷ [] } ∷ []
   -- "Only 202h and 206h: two writes."
@@ -66,13 +73,22 @@ pub record Starred : Type 0 where
   -- "Sink 2: refusal 6."
   pub sink-2-refused : answerNumber (lampOf (openOf 3 0 0 .state) 2 2 0 .answer) ≡ 6
 
+-- (the two that go through every call stand apart, since each takes some memory to compute)
+bench-i2c : updated 0 ≡ benchList
+unfolding openAnswer opens linesOf columnsOf hasColumn dotIn isDot numberIn kindOf addressOf shiftOf placeAs placeOf lineNumber dataMode isWide firstMasks firstMask noSink groupMask switchMask groupReserved switchReserved currentReserved pwmReserved reservedAs reservedOf writableOf firstReset switchBytesOf switchReset currentReset resetAs resetOf allFrom tableFrom table okByte okAt imageOk resetImage byteAt size16 nOf lengthsFrom lengths cutFrom transactions headFirst headSecond transactionOf listOf encode scan plan updateFor soundOf whenSound settled opened openState openOf registerAnswer registerOf wideOf topLevel whenDot lampAnswer putLevel lampOf writesOf updateAnswer updateBuffer
+bench-i2c = refl
+
+bench-spi : transactions (updated 1) ≡ benchTransactions
+unfolding openAnswer opens linesOf columnsOf hasColumn dotIn isDot numberIn kindOf addressOf shiftOf placeAs placeOf lineNumber dataMode isWide firstMasks firstMask noSink groupMask switchMask groupReserved switchReserved currentReserved pwmReserved reservedAs reservedOf writableOf firstReset switchBytesOf switchReset currentReset resetAs resetOf allFrom tableFrom table okByte okAt imageOk resetImage byteAt size16 nOf lengthsFrom lengths cutFrom transactions headFirst headSecond transactionOf listOf encode scan plan updateFor soundOf whenSound settled opened openState openOf registerAnswer registerOf wideOf topLevel whenDot lampAnswer putLevel lampOf writesOf updateAnswer updateBuffer
+bench-spi = refl
+
 pub starred : Starred
-unfolding calls updated differing lit openAnswer opens linesOf columnsOf hasColumn dotIn isDot numberIn dotNumber kindOf addressOf shiftOf placeAs placeOf lineNumber dataMode isWide firstMasks firstMask noSink groupMask switchMask groupReserved switchReserved currentReserved pwmReserved reservedAs reservedOf writableOf firstReset switchBytesOf switchReset currentReset resetAs resetOf allFrom tableFrom table okByte okAt imageOk resetImage byteAt size16 nOf lengthsFrom lengths cutFrom transactions headFirst headSecond transactionOf listOf encode scan plan updateFor soundOf whenSound settled opened openState openOf registerAnswer registerOf wideOf topLevel whenDot lampAnswer putLevel lampOf writesOf updateAnswer updateBuffer
+unfolding openAnswer opens linesOf columnsOf hasColumn dotIn isDot numberIn kindOf addressOf shiftOf placeAs placeOf lineNumber dataMode isWide firstMasks firstMask noSink groupMask switchMask groupReserved switchReserved currentReserved pwmReserved reservedAs reservedOf writableOf firstReset switchBytesOf switchReset currentReset resetAs resetOf allFrom tableFrom table okByte okAt imageOk resetImage byteAt size16 nOf lengthsFrom lengths cutFrom transactions headFirst headSecond transactionOf listOf encode scan plan updateFor soundOf whenSound settled opened openState openOf registerAnswer registerOf wideOf topLevel whenDot lampAnswer putLevel lampOf writesOf updateAnswer updateBuffer
 starred = record {
   lines-of-5E = refl;
   mode-of-5E = refl;
-  i2c-list = refl;
-  spi-transactions = refl;
+  i2c-list = bench-i2c;
+  spi-transactions = bench-spi;
   one-write = refl;
   two-writes = refl;
   low-at-292 = refl;
