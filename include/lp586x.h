@@ -1,0 +1,103 @@
+/* Host driver for TI's LP586x LED-matrix chips (LP5860, LP5861T, LP5864, LP5867, LP5868T): a record of one chip, its settings,
+ * updates as lists of bus writes, fault reading, and a model of the chip for tests.
+ *
+ * Every call answers 0 where it was accepted, or the number of its refusal:
+ *    1 member above 4       2 bus above 1            3 pins above 3, or not 0 on SPI
+ *    4 address not writable 5 reserved bits differ   6 no such dot
+ *    7 level too high       8 group above 3 or state above 1
+ *    9 length of a scene   10 buffer too short      11 sizes of a list do not add up
+ *   13 fault bytes not 67  14 unsound record or chip, or its size is wrong
+ * A call checks in the order in which its refusals stand below. A refused call changes no byte that was lent to it; 10 of
+ * lp586x_update alone stores the length needed.
+ *
+ * A record is LP586X_RECORD_SIZE bytes in the caller's memory, a chip of the model LP586X_CHIP_SIZE: static storage, a stack or a file
+ * will do. Nothing is allocated and nothing is kept between calls. The memory of two arguments of one call must not overlap, and no
+ * pointer may be null, even with length 0.
+ *
+ * Bytes of a record: member, bus, pins, 908 settings, 908 of the chip as the host believes it. Of a chip: member, bus, pins, 908
+ * registers. A call refuses bytes that are not sound; they are the driver's to change.
+ */
+#ifndef LP586X_H
+#define LP586X_H
+
+#include <stddef.h>
+#include <stdint.h>
+
+#ifdef __cplusplus
+extern "C" {
+#endif
+
+#define LP586X_RECORD_SIZE 1819u
+#define LP586X_CHIP_SIZE 911u
+#define LP586X_REGISTERS 908u
+
+/* A buffer of this size is never too short for lp586x_update. */
+#define LP586X_UPDATE_SIZE 1174u
+/* The size of the list of lp586x_reset, lp586x_clear_opens and lp586x_clear_shorts. */
+#define LP586X_COMMAND_SIZE 9u
+/* Fault bytes 064h to 0A6h, and a reading for each dot 18 x line + sink. */
+#define LP586X_FAULT_BYTES 67u
+#define LP586X_DOTS 198u
+
+/* ---- The record and its settings */
+
+/* A new record: member 0 LP5860, 1 LP5861T, 2 LP5864, 3 LP5867, 4 LP5868T; bus 0 I2C with the chip's two address pins, 1 SPI with pins 0.
+ * Settings and chip image start at the member's reset values. 14 (size), 1, 2, 3. */
+uint32_t lp586x_open(uint8_t *record, size_t record_size, uint32_t member, uint32_t bus, uint32_t pins);
+
+/* One whole register of the settings. 14, 4, 5 (a value above 255 too). */
+uint32_t lp586x_register(uint8_t *record, size_t record_size, uint32_t address, uint32_t value);
+
+/* The level of a dot, 8 or 16 bits by the data mode of the settings. 14, 6, 7. */
+uint32_t lp586x_lamp(uint8_t *record, size_t record_size, uint32_t line, uint32_t sink, uint32_t level);
+
+/* The brightness group of a dot, 0 for none. 14, 6, 8. */
+uint32_t lp586x_group(uint8_t *record, size_t record_size, uint32_t line, uint32_t sink, uint32_t group);
+
+/* A dot on (1) or off (0). 14, 6, 8. */
+uint32_t lp586x_switch(uint8_t *record, size_t record_size, uint32_t line, uint32_t sink, uint32_t state);
+
+/* Many levels: a count n of two bytes, n dot numbers of one byte, n levels of two bytes, low byte first. All or nothing. 14, 9, 6, 7. */
+uint32_t lp586x_scene(uint8_t *record, size_t record_size, const uint8_t *scene, size_t scene_size);
+
+/* The chip has lost its power: it holds its reset values, the settings are kept. 14. */
+uint32_t lp586x_power_lost(uint8_t *record, size_t record_size);
+
+/* ---- Lists of bus writes
+ *
+ * A list is n, t, n lengths (two bytes each, low byte first), then n transactions of t bytes together: two head bytes and the data. Send
+ * each transaction as it stands. Exactly 4 + 2n + t bytes of the buffer are written. */
+
+/* The shortest list that brings the chip to the settings. 0 stores n and t; 10 stores the length needed. 14, 10. */
+uint32_t lp586x_update(uint8_t *record, size_t record_size, uint8_t *buffer, size_t buffer_size, uint32_t *n, uint32_t *t, uint32_t *needed);
+
+/* Every register of the chip to its reset value; the settings are kept, so that the next update sends them. 0 stores n and t. 14, 10. */
+uint32_t lp586x_reset(uint8_t *record, size_t record_size, uint8_t *buffer, size_t buffer_size, uint32_t *n, uint32_t *t);
+
+/* The open bits, the short bits of the chip to 0; the record is only read. 0 stores n and t. 14, 10. */
+uint32_t lp586x_clear_opens(const uint8_t *record, size_t record_size, uint8_t *buffer, size_t buffer_size, uint32_t *n, uint32_t *t);
+uint32_t lp586x_clear_shorts(const uint8_t *record, size_t record_size, uint8_t *buffer, size_t buffer_size, uint32_t *n, uint32_t *t);
+
+/* ---- Lamp faults */
+
+/* The 67 bytes 064h to 0A6h as read from the chip: the first 198 bytes of the result become, by dot number, 0 sound, 1 open, 2 short,
+ * 3 both, 4 no such dot. opens_agree is 1 if bit 1 of 064h says whether a dot is open, shorts_agree if bit 0 does for short, else 0.
+ * 1, 13, 10 (result under 198). */
+uint32_t lp586x_faults(uint32_t member, const uint8_t *bytes, size_t bytes_size, uint8_t *result, size_t result_size, uint32_t *opens_agree, uint32_t *shorts_agree);
+
+/* ---- The chip model, for tests */
+
+/* A chip that was just given power. 14 (size), 1, 2, 3. */
+uint32_t lp586x_chip_at_reset(uint8_t *chip, size_t chip_size, uint32_t member, uint32_t bus, uint32_t pins);
+
+/* A loss of power; a chip whose member is above 4 stays as it is. 14 (size). */
+uint32_t lp586x_chip_power_lost(uint8_t *chip, size_t chip_size);
+
+/* A list, transaction by transaction. 14, 11. */
+uint32_t lp586x_chip_feed(uint8_t *chip, size_t chip_size, const uint8_t *list, size_t list_size);
+
+#ifdef __cplusplus
+}
+#endif
+
+#endif
