@@ -6,7 +6,7 @@ use mathlib.Core.List.{List}
 use Prim.Native.Nat.{ℕ, _+_, _*_, _≤_}
 use borrow.Author.Tests.{leb-true}
 use lib.Dec.{leb}
-use lib.ListN.{length, take}
+use lib.ListN.{length}
 use lib.Seq.{length-take-le}
 use Rattle.map.specs.declared.refusals.Refusal.the-variants.{BufferShort, Unsound}
 use Rattle.burst.specs.Burst.{busBytes}
@@ -40,7 +40,7 @@ module _ (r : Record) (size : ℕ) where
   unfolding updateOf updateAnswer
   update-within = tested-within (soundOf r) (length (writesOf r)) (busBytes (writesOf r)) size (Short (listSize (writesOf r))) tt
 
-  pub command-within : Within (commandAnswer r size) size
+  command-within : Within (commandAnswer r size) size
   unfolding commandAnswer
   command-within = tested-within (soundOf r) 1 3 size (Refused BufferShort) tt
 

@@ -21,10 +21,10 @@ fn known(member: usize) -> u8
 pub(crate) fn opened(member: usize) -> Ledger
     ensures { λ r. ⌜ r ≡ openedLedger member ⌝ }
 {
-    let member = known(member);
-    let bytes = map::reset_image(member as usize);
+    let known = known(member);
+    let bytes = map::reset_image(known as usize);
     Ledger {
-        member: member,
+        member: known,
         bytes: bytes,
     }
 }

@@ -92,7 +92,11 @@ pub fn step(world: World, request: Request, lent: &mut [u8]) -> Stepped
         } => settled(host::switch(state, line, sink, on), chip),
         Request::Scene => settled(host::scene(state, lent), chip),
         Request::Reset => feeding::reset(state, chip, lent),
-        Request::PowerLost => settled(host::power_lost(state), chip::power_lost(chip)),
+        Request::PowerLost => {
+            let changed = host::power_lost(state);
+            let reset = chip::power_lost(chip);
+            settled(changed, reset)
+        }
         Request::Update => feeding::update(state, chip, lent),
     }
 }
@@ -146,9 +150,9 @@ pub fn enter(ledger: Ledger, request: Request, lent: &[u8]) -> Ledger
 {
     let member = ledger.member;
     let bytes = ledger.bytes;
-    let bytes = ledgers::entered(member, bytes, request, lent);
+    let entered = ledgers::entered(member, bytes, request, lent);
     Ledger {
         member: member,
-        bytes: bytes,
+        bytes: entered,
     }
 }
