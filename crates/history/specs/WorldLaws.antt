@@ -1,6 +1,6 @@
 -- What holds between a record, its chip and the ledger after every call, one lemma for each call.
 -- Assumes nothing.
-use mathlib.Core.Path.{_≡_, refl, sym, ap, _∙_, subst}
+use mathlib.Core.Path.{_≡_, refl, sym, ap, ap₂, _∙_, subst}
 use mathlib.Core.Bool.{Bool, true, false, cond}
 use mathlib.Core.List.{List, [], _∷_, _++_, map}
 use Prim.Native.Nat.{ℕ}
@@ -175,9 +175,16 @@ module _ (m b p : ℕ) (o : opens m b p ≡ true) where
     chip-sound : Rattle.chip.specs.ChipLaws.Sound chip
     chip-sound = record { opened = o; registers = fr }
 
+    -- the record has reset values for its image
+    told : powerLostOf state .state ≡ recordOf m b p s (resetImage m)
+    unfolding powerLostOf soundAnswer whenSound
+    told = rw (is-so) refl
+
     power-holds : Holds m b p s (settled (powerLostOf state) (Rattle.chip.specs.Chip.powerLostOf chip) .world)
-    unfolding powerLostOf soundAnswer whenSound newChip
-    power-holds = rw (is-so, power-lost-is chip chip-sound) reset-holds
+    unfolding newChip
+    power-holds =
+        subst (λ (w : World). Holds m b p s w)
+        (ap₂ (λ (r : Record) (c : Chip). record { state = r; chip = c }) (sym told) (sym (power-lost-is chip chip-sound))) reset-holds
 
     -- ---- a list that is answered
 
