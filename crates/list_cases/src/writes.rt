@@ -1,0 +1,39 @@
+// Lists that are built from writes, as document 01, "Burst lists", has them.
+
+// A write at a place of a list. It answers the place behind.
+pub fn put_write(
+    list: &mut [u8],
+    at: usize,
+    bus: u8,
+    pins: u8,
+    address: usize,
+    bytes: &[u8],
+) -> usize {
+    let next = text::put(list, at, burst::head_first(bus, pins, address));
+    let next = text::put(list, next, burst::head_second(bus, address));
+    text::put_text(list, next, bytes)
+}
+
+// n, and t.
+pub fn put_counts(list: &mut [u8], n: usize, t: usize) {
+    burst::put_size(list, 0, n);
+    burst::put_size(list, 2, t);
+}
+
+// A list of one write, of so many bytes with its head.
+pub fn put_single(list: &mut [u8], size: usize, bus: u8, pins: u8, address: usize, bytes: &[u8]) {
+    put_counts(list, 1, size);
+    burst::put_size(list, 4, size);
+    put_write(list, 6, bus, pins, address, bytes);
+}
+
+// The bench example: 000h = 01h, 001h = 58h, Lamp (0, 2, 40h).
+pub fn put_bench(list: &mut [u8], bus: u8) {
+    put_counts(list, 3, 9);
+    burst::put_size(list, 4, 3);
+    burst::put_size(list, 6, 3);
+    burst::put_size(list, 8, 3);
+    let next = put_write(list, 10, bus, 0, 0x000, &[0x01]);
+    let next = put_write(list, next, bus, 0, 0x001, &[0x58]);
+    put_write(list, next, bus, 0, 0x202, &[0x40]);
+}
