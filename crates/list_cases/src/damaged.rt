@@ -1,7 +1,7 @@
 // Lists that are refused: by their sizes, or as they have more than 65,536 bytes.
 use crate::report::whole;
-use crate::writes::put_bench;
-use crate::writes::put_single;
+use crate::writes::bench;
+use crate::writes::single;
 
 // "length under 4"
 fn short() {
@@ -20,20 +20,17 @@ fn lengths() {
 
 // "or a size other than 4 + 2n + t"
 fn size() {
-    let mut missing = [0u8; 18];
-    put_bench(&mut missing, 0);
-    whole(b"the bench example without its last byte", &missing);
-    let mut more = [0u8; 20];
-    put_bench(&mut more, 0);
-    whole(b"the bench example and one byte more", &more);
+    let mut list = [0u8; 18];
+    bench(b"the bench example without its last byte", &mut list, 0);
+    let mut list = [0u8; 20];
+    bench(b"the bench example and one byte more", &mut list, 0);
     whole(b"n of 65,535", &[0xFF, 0xFF, 3, 0, 3, 0, 0x80, 0x00, 0x01]);
 }
 
 // 4 + 2 + 65,531 bytes: the sizes add up.
 fn long() {
     let mut list = [0u8; 65537];
-    put_single(&mut list, 65531, 0, 0, 0x000, &[]);
-    whole(b"65,537 bytes", &list);
+    single(b"65,537 bytes", &mut list, 65531, 0, 0, 0x000, &[]);
 }
 
 pub fn all() {

@@ -3,6 +3,7 @@ use crate::report::summary;
 use crate::report::whole;
 use crate::writes::put_counts;
 use crate::writes::put_single;
+use crate::writes::put_three_sizes;
 use crate::writes::put_write;
 
 // 00h to FFh.
@@ -18,10 +19,7 @@ fn rising() -> [u8; 256] {
 
 fn several() {
     let mut list = [0u8; 274];
-    put_counts(&mut list, 3, 264);
-    burst::put_size(&mut list, 4, 3);
-    burst::put_size(&mut list, 6, 258);
-    burst::put_size(&mut list, 8, 3);
+    put_three_sizes(&mut list, 258, 264);
     let next = put_write(&mut list, 10, 0, 0, 0x000, &[0x01]);
     let next = put_write(&mut list, next, 0, 0, 0x100, &rising());
     put_write(&mut list, next, 0, 0, 0x001, &[0x58]);
