@@ -1,9 +1,9 @@
--- `update::clear_shorts` meets its contract.
+-- `update::clear` meets its contract.
 -- Assumes nothing.
 use Rattle.update.proofs.Fixed.{clear-is}
 use borrow.Author.Needs.{needs}
-use Rattle.update.proofs.clear_shorts.Statement.{statement}
-use Rattle.update.proofs.clear_shorts.Tie as tie
+use Rattle.update.proofs.clear.Statement.{statement}
+use Rattle.update.proofs.clear.Tie as tie
 
 command-requires : tie.Need-command-requires
 command-requires c κs = search needs
@@ -14,5 +14,5 @@ same-length c = search needs
 returns : tie.Need-returns
 returns c = (clear-is _ _ _ (c .before .before .command .ensures .0), c .before .before .command .ensures .1)
 
-pub clear-shorts-spec : {M : Type 1} → statement M
-clear-shorts-spec = tie.close (tie.spec command-requires same-length returns)
+pub clear-spec : {M : Type 1} → statement M
+clear-spec = tie.close (tie.spec command-requires same-length returns)
