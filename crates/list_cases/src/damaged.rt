@@ -30,7 +30,7 @@ fn size() {
 // 4 + 2 + 65,531 bytes: the sizes add up.
 fn long() {
     let mut list = [0u8; 65537];
-    single(b"65,537 bytes", &mut list, 65531, 0, 0, 0x000, &[]);
+    single(b"65,537 bytes", &mut list, 65531, 0, 0x000, &[]);
 }
 
 pub fn all() {

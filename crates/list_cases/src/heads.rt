@@ -15,7 +15,6 @@ fn other_pins() {
         b"a write to the chip with pins 3",
         &mut list,
         3,
-        0,
         3,
         0x205,
         &[0xA0],
@@ -24,7 +23,7 @@ fn other_pins() {
 
 fn last_address() {
     let mut list = [0u8; 10];
-    single(b"a write at 3FFh", &mut list, 4, 0, 0, 0x3FF, &[0x12, 0x34]);
+    single(b"a write at 3FFh", &mut list, 4, 0, 0x3FF, &[0x12, 0x34]);
 }
 
 pub fn all() {

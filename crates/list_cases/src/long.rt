@@ -29,7 +29,7 @@ fn several() {
 // 4 + 2 + 65,530 bytes; the data are 00h.
 fn longest() {
     let mut list = [0u8; 65536];
-    put_single(&mut list, 65530, 0, 0, 0x000, &[]);
+    put_single(&mut list, 65530, 0, 0x000, &[]);
     summary(b"65,536 bytes in one transaction", &list);
 }
 

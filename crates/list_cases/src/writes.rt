@@ -21,23 +21,22 @@ pub fn put_counts(list: &mut [u8], n: usize, t: usize) {
     burst::put_size(list, 2, t);
 }
 
-// A list of one write, of so many bytes with its head.
-pub fn put_single(list: &mut [u8], size: usize, bus: u8, pins: u8, address: usize, bytes: &[u8]) {
+// A list of one write on I2C, of so many bytes with its head.
+pub fn put_single(list: &mut [u8], size: usize, pins: u8, address: usize, bytes: &[u8]) {
     put_counts(list, 1, size);
     burst::put_size(list, 4, size);
-    put_write(list, 6, bus, pins, address, bytes);
+    put_write(list, 6, 0, pins, address, bytes);
 }
 
 pub fn single(
     caption: &[u8],
     list: &mut [u8],
     size: usize,
-    bus: u8,
     pins: u8,
     address: usize,
     bytes: &[u8],
 ) {
-    put_single(list, size, bus, pins, address, bytes);
+    put_single(list, size, pins, address, bytes);
     whole(caption, list);
 }
 
