@@ -10,7 +10,7 @@ mod runs;
 
 ghost use mathlib.Core.Path.{_≡_};
 ghost use lib.ListN.{length};
-ghost use Rattle.update.specs.Update.{updateOf, updateBuffer, chipResetOf, clearOf, resetBuffer, clearOpensBuffer, clearShortsBuffer, listNumber};
+ghost use Rattle.update.specs.Update.{updateOf, updateBuffer, chipResetOf, clearOf, commandBuffer, resetBuffer, clearOpensBuffer, clearShortsBuffer, listNumber};
 use host::Record;
 use map::Refusal;
 
@@ -87,10 +87,10 @@ pub fn reset(mut r: Record, buffer: &mut [u8]) -> Updated
     }
 }
 
-// Clear the open bits of the chip.
-pub fn clear_opens(r: Record, buffer: &mut [u8]) -> Updated
+// The command at `address`, by one write of 0Fh.
+fn clear(r: Record, buffer: &mut [u8], address: usize) -> Updated
     ensures { λ x. ⌜ x ≡ clearOf r (length (now (buffer .entry))) ⌝ }
-    ensures { λ _. ⌜ now (buffer .exit) ≡ clearOpensBuffer r (now (buffer .entry)) ⌝ }
+    ensures { λ _. ⌜ now (buffer .exit) ≡ commandBuffer r address 0x0F (now (buffer .entry)) ⌝ }
 {
     let answer = commands::command(
         r.member,
@@ -99,7 +99,7 @@ pub fn clear_opens(r: Record, buffer: &mut [u8]) -> Updated
         &r.settings,
         &r.image,
         buffer,
-        0x0A7,
+        address,
         0x0F,
     );
     Updated {
@@ -108,23 +108,18 @@ pub fn clear_opens(r: Record, buffer: &mut [u8]) -> Updated
     }
 }
 
+// Clear the open bits of the chip.
+pub fn clear_opens(r: Record, buffer: &mut [u8]) -> Updated
+    ensures { λ x. ⌜ x ≡ clearOf r (length (now (buffer .entry))) ⌝ }
+    ensures { λ _. ⌜ now (buffer .exit) ≡ clearOpensBuffer r (now (buffer .entry)) ⌝ }
+{
+    clear(r, buffer, 0x0A7)
+}
+
 // Clear the short bits of the chip.
 pub fn clear_shorts(r: Record, buffer: &mut [u8]) -> Updated
     ensures { λ x. ⌜ x ≡ clearOf r (length (now (buffer .entry))) ⌝ }
     ensures { λ _. ⌜ now (buffer .exit) ≡ clearShortsBuffer r (now (buffer .entry)) ⌝ }
 {
-    let answer = commands::command(
-        r.member,
-        r.bus,
-        r.pins,
-        &r.settings,
-        &r.image,
-        buffer,
-        0x0A8,
-        0x0F,
-    );
-    Updated {
-        answer: answer,
-        state: r,
-    }
+    clear(r, buffer, 0x0A8)
 }

@@ -18,6 +18,9 @@ array-share-prefix-input c = search needs
 slice-aggregate-show : tie.Need-slice-aggregate-show
 slice-aggregate-show c = search needs
 
+slice-aggregate-show-2 : tie.Need-slice-aggregate-show-2
+slice-aggregate-show-2 c = search needs
+
 show-requires : tie.Need-show-requires
 show-requires c κs = search needs
 
@@ -25,7 +28,7 @@ array-share-prefix-text : tie.Need-array-share-prefix-text
 array-share-prefix-text c = search needs
 
 slice-aggregate-write-all : tie.Need-slice-aggregate-write-all
-slice-aggregate-write-all c = sym (length-take-le _ _ (c .before .show .ensures .inside))
+slice-aggregate-write-all c = sym (length-take-le _ _ (c .before .before .show .ensures .1))
 
 write-all-requires : tie.Need-write-all-requires
 write-all-requires c κs = search needs
@@ -41,6 +44,7 @@ main-spec =
     read-full-requires
     array-share-prefix-input
     slice-aggregate-show
+    slice-aggregate-show-2
     show-requires
     array-share-prefix-text
     slice-aggregate-write-all
