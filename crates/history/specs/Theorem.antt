@@ -36,7 +36,7 @@ use Rattle.history.specs.declared.Request.the-variants.{Update}
 use Rattle.history.specs.Ledger.{entry, wantsOn}
 use Rattle.history.specs.Step.{listIn, fedBy, stepOf}
 use Rattle.history.specs.History.{Call, start, run, worldAfter, entries, ledger, SameWritable, AllWriteWritable, Rival, Updates, updateList, LastUpdate, WholeLists}
-use Rattle.history.specs.WorldLaws.{machine, hear-all-is, Holds, history-holds, front, update-fed, ready}
+use Rattle.history.specs.WorldLaws.{run-last, entries-last, machine, hear-all-is, Holds, history-holds, front, update-fed, ready}
 use Rattle.history.specs.RivalLaws.{all-writes, all-good, all-own}
 
 -- ---- an answer
@@ -166,14 +166,6 @@ module _ (m b p : ℕ) (o : opens m b p ≡ true) (s : List ℕ) (w : World) (h 
 
 -- ---- the last call of a list
 
-run-last : (xs : List Call) (c : Call) (w : World) → run w (xs ++ (c ∷ [])) ≡ stepOf (run w xs) (c .request) (c .lent) .world
-run-last [] c w = refl
-run-last (x ∷ xs) c w = run-last xs c (stepOf w (x .request) (x .lent) .world)
-
-entries-last : (m : ℕ) (xs : List Call) (buffer s : List ℕ) → entries m s (xs ++ (record { request = Update; lent = buffer } ∷ [])) ≡ entries m s xs
-entries-last m [] buffer s = refl
-entries-last m (x ∷ xs) buffer s = entries-last m xs buffer (entry m s (x .request) (x .lent))
-
 module _ (m b p : ℕ) (o : opens m b p ≡ true) (calls before : List Call) (buffer : List ℕ) (n t : ℕ) where
   held : Holds m b p (ledger m before) (worldAfter m b p before)
   held = history-holds m b p o before
@@ -198,7 +190,7 @@ module _ (m b p : ℕ) (o : opens m b p ≡ true) (calls before : List Call) (bu
 
   module _ (u : Updates m b p calls before [] buffer n t) where
     ledger-is : ledger m calls ≡ ledger m before
-    ledger-is = ap (ledger m) (u .calls-are) ∙ entries-last m before buffer (resetImage m)
+    ledger-is = ap (ledger m) (u .calls-are) ∙ entries-last m before (record { request = Update; lent = buffer }) (resetImage m)
 
     abbrev chip-before : Chip
     chip-before = chipOf m b p (held .registers)

@@ -3,16 +3,17 @@
 use mathlib.Core.Path.{_≡_, refl, sym, ap, ap₂, _∙_, subst}
 use mathlib.Core.Bool.{Bool, true, false, cond}
 use mathlib.Core.List.{List, [], _∷_, _++_, map}
-use Prim.Native.Nat.{ℕ}
+use Prim.Native.Nat.{ℕ, _<_}
 use native.Mathlib.Omega.{arith}
+use borrow.Author.Tests.{lt-ltb, le-ltb}
 use lib.Dec.{leb}
 use lib.ListN.{length, take, drop}
-use Rattle.map.specs.Refusals.{opens}
+use Rattle.map.specs.Refusals.{openAnswer, opens}
 use Rattle.map.specs.RefusalLaws.{opens-member}
 use Rattle.map.specs.Map.{writableOf}
 use Rattle.map.specs.ByteLaws.{enable-reset}
 use Rattle.map.specs.Images.{resetImage}
-use Rattle.map.specs.ImageLaws.{Fit, Image, Registers}
+use Rattle.map.specs.ImageLaws.{Fit, Image, Registers, ok-image}
 use Rattle.burst.specs.Burst.{Burst, busBytes, encode}
 use Rattle.burst.specs.BurstLaws.{AllNamed, encode-length}
 use Rattle.plan.specs.Writes.{AllGood}
@@ -35,9 +36,10 @@ use Rattle.chip.specs.ChipLaws.{hear-registers, reset-registers}
 use Rattle.chip.specs.HearLaws.{hear-outside, hear-standby, hear-stores}
 use Rattle.chip.specs.FeedLaws.{hearAll, hear-all-registers, feed-encoded, feed-reset, power-lost-is}
 use Rattle.history.specs.declared.World.{World}
+use Rattle.history.specs.declared.Ledger.{Ledger}
 use Rattle.history.specs.declared.Request.{Request}
 use Rattle.history.specs.declared.Request.the-variants.{Register, Lamp, Group, Switch, Scene, Reset, PowerLost, Update}
-use Rattle.history.specs.Ledger.{entry}
+use Rattle.history.specs.Ledger.{entry, openedLedger, enteredOf}
 use Rattle.history.specs.LedgerLaws.{register-enters, lamp-enters, group-enters, switch-enters, scene-enters}
 use Rattle.history.specs.Step.{listIn, fedBy, settled, listed, stepOf}
 use Rattle.history.specs.History.{Call, start, run, worldAfter, entries, ledger}
@@ -74,6 +76,10 @@ front b p xs buffer =
     take-front : (x y : List ℕ) → take (length x) (x ++ y) ≡ x
     take-front [] y = refl
     take-front (v ∷ x) y = ap (λ (z : List ℕ). v ∷ z) (take-front x y)
+
+first-opens : (m : ℕ) → m < 5 → opens m 0 0 ≡ true
+unfolding opens openAnswer
+first-opens m h = rw (le-ltb 4 m (omega arith)) refl
 
 -- ---- the invariant
 
@@ -281,3 +287,32 @@ module _ (m b p : ℕ) (o : opens m b p ≡ true) where
 
   pub history-holds : (calls : List Call) → Holds m b p (ledger m calls) (worldAfter m b p calls)
   history-holds calls = run-holds calls (resetImage m) (start m b p) start-holds
+
+-- ---- the last call of a list
+
+pub run-last : (xs : List Call) (c : Call) (w : World) → run w (xs ++ (c ∷ [])) ≡ stepOf (run w xs) (c .request) (c .lent) .world
+run-last [] c w = refl
+run-last (x ∷ xs) c w = run-last xs c (stepOf w (x .request) (x .lent) .world)
+
+pub entries-last : (m : ℕ) (xs : List Call) (c : Call) (s : List ℕ) → entries m s (xs ++ (c ∷ [])) ≡ entry m (entries m s xs) (c .request) (c .lent)
+entries-last m [] c s = refl
+entries-last m (x ∷ xs) c s = entries-last m xs c (entry m s (x .request) (x .lent))
+
+-- ---- the ledger as a value of the program
+
+-- the ledger of a member after these calls
+abbrev pub ledgerOf : ℕ → List Call → Ledger
+ledgerOf m calls = record { member = m; bytes = ledger m calls }
+
+pub ledger-opened : (m : ℕ) → m < 5 → openedLedger m ≡ ledgerOf m []
+unfolding openedLedger
+ledger-opened m h = rw (lt-ltb m 5 h) refl
+
+-- entering one more call gives the ledger after that call: its bytes are always such as `enteredOf` takes
+pub ledger-entered : (m : ℕ) → m < 5 → (calls : List Call) (c : Call) → enteredOf (ledgerOf m calls) (c .request) (c .lent) ≡ ledgerOf m (calls ++ (c ∷ []))
+unfolding enteredOf
+ledger-entered m h calls c =
+    ap (λ (s : List ℕ). record { member = m; bytes = s })
+    (ap (λ (b : Bool). cond b (entry m (ledger m calls) (c .request) (c .lent)) (ledger m calls))
+    (ok-image m (ledger m calls) (history-holds m 0 0 (first-opens m h) calls .settings-fit))
+    ∙ sym (entries-last m calls c (resetImage m)))
