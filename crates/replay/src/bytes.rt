@@ -1,7 +1,9 @@
 // Byte strings: pairs of hex digits, and `-` for the empty one.
 ghost use mathlib.Core.Path.{_≡_};
 ghost use Rattle.replay.specs.Numbers.{allDigits};
-ghost use Rattle.replay.specs.Bytes.{isBytes, pairOf};
+ghost use Rattle.replay.specs.Bytes.{isBytes, pairOf, bytesOf};
+ghost use Rattle.text.specs.Text.{Puts};
+ghost use Rattle.io.specs.Counts.{Counts};
 use crate::numbers::digit;
 use crate::words::same;
 
@@ -37,4 +39,18 @@ fn pair(high: u8, low: u8) -> u8
     ensures { λ r. ⌜ r ≡ pairOf high low ⌝ }
 {
     (digit(high) % 16 * 16 + digit(low) % 16) as u8
+}
+
+// The bytes of a byte string, at the front of a buffer. It answers how many.
+pub(crate) fn decode(word: &[u8], buffer: &mut [u8]) -> usize
+    ensures { λ r. ⌜ Puts (now (buffer .entry)) 0 (bytesOf (now (word .entry))) (now (buffer .exit)) r ⌝ }
+    ensures { λ r. ⌜ Counts r (now (buffer .exit)) ⌝ }
+{
+    let mut at = 0;
+    let mut i = 1;
+    while i < word.len() {
+        at = text::put(buffer, at, pair(word[i - 1], word[i]));
+        i += 2;
+    }
+    at
 }
