@@ -3,19 +3,22 @@
 use mathlib.Core.Path.{_≡_, refl, sym, ap, _∙_}
 use mathlib.Core.Bool.{Bool, true, false, cond, _&&_}
 use mathlib.Core.List.{List, [], _∷_}
-use Prim.Native.Nat.{ℕ, zero, suc, _+_, _-_, _*_, _%_, _≤_, _<_}
+use Prim.Native.Nat.{ℕ, zero, suc, _+_, _-_, _*_, _/_, _%_, _≤_, _<_}
 use native.Mathlib.Nat.{mul-le-mul-right, add-suc, add-zero, suc-inj, not-suc-le-zero, suc-ne-zero}
 use native.Mathlib.Numerals.{add-one}
 use native.Mathlib.Omega.{arith}
 use borrow.Author.Tests.{lt-ltb, le-ltb, le-leb, lt-leb, eq-eqb, ne-eqb}
 use lib.Dec.{ltb, leb, eqb}
 use lib.ListN.{length, getD, take, drop, length-drop, drop-of-length-le}
-use lib.Seq.{drop-cons, drop-drop, drop-nil, take-nil, take-all}
+use lib.Seq.{drop-cons, drop-drop, drop-nil, take-nil, length-take-le}
 use Rattle.replay.specs.declared.numbers.Number.{Number}
 use Rattle.replay.specs.declared.numbers.Number.the-variants.{Value, Bad}
 use Rattle.replay.specs.declared.numbers.Byte.the-variants as bytes
 use Rattle.replay.specs.Numbers.{digitOf, allDigits, valueFrom, isNumber, numberOf, atMost, byteAtMost}
-use Rattle.replay.specs.Bytes.{isPairs, isBytes}
+use Rattle.replay.specs.Bytes.{isPairs, isBytes, pairOf, bytesOf}
+use Rattle.text.specs.Text.{Puts}
+use Rattle.text.specs.TextLaws.{after-inside, puts-length, Putting, putting-none, putting-more, putting-all}
+use Rattle.io.specs.Counts.{Counts}
 use Rattle.replay.specs.Words.{spaceOf, firstLength, firstWord, behind, wordAt, wordCount, sameText}
 
 -- one element, and what is left behind it
@@ -256,3 +259,43 @@ pairs-even w digits d h o e =
 pub dash-bytes : (w : List ℕ) → sameText w (0x2D ∷ []) ≡ true → true ≡ isBytes w
 unfolding isBytes
 dash-bytes w e = rw e refl
+
+bytes-next : (w : List ℕ) (k : ℕ) → k < length w / 2 → bytesOf (drop (2 * k) w) ≡ pairOf (getD w (2 * k) 0) (getD w (2 * k + 1) 0) ∷ bytesOf (drop (2 * (k + 1)) w)
+unfolding bytesOf
+bytes-next w k h =
+    let two : 2 * k + 1 + 1 ≡ 2 * (k + 1) = omega arith in
+    ap bytesOf (next-left w (2 * k) (omega arith))
+    ∙ ap (λ (x : List ℕ). bytesOf (getD w (2 * k) 0 ∷ x)) (next-left w (2 * k + 1) (omega arith))
+    ∙ ap (λ (j : ℕ). pairOf (getD w (2 * k) 0) (getD w (2 * k + 1) 0) ∷ bytesOf (drop j w)) two
+
+bytes-one : (w : List ℕ) → length w ≤ 1 → bytesOf w ≡ []
+unfolding bytesOf
+bytes-one [] h = refl
+bytes-one (x ∷ []) h = refl
+bytes-one (x ∷ (y ∷ w)) h = absurd (omega arith)
+
+bytes-none : (w : List ℕ) (k : ℕ) → length w / 2 ≤ k → bytesOf (drop (2 * k) w) ≡ []
+bytes-none w k h = bytes-one (drop (2 * k) w) (omega (arith, length-drop (2 * k) w))
+
+-- what a loop has decoded: k pairs
+pub record Decodes (old w : List ℕ) (k : ℕ) (buffer : List ℕ) (at : ℕ) : Type 0 where
+  pub inside : at ≤ length buffer
+  pub size : length buffer ≡ length old
+  pub puts : Putting old 0 (bytesOf w) (bytesOf (drop (2 * k) w)) buffer at
+
+pub decodes-none : (old w : List ℕ) → Decodes old w 0 old 0
+decodes-none old w = record { inside = omega arith; size = refl; puts = putting-none old 0 (bytesOf w) }
+
+pub decodes-more : (old w : List ℕ) (k : ℕ) (buffer : List ℕ) (at b : ℕ) (new : List ℕ) (r : ℕ) → k < length w / 2 →
+    b ≡ pairOf (getD w (2 * k) 0) (getD w (2 * k + 1) 0) → Puts buffer at (b ∷ []) new r → Decodes old w k buffer at → Decodes old w (k + 1) new r
+decodes-more old w k buffer at b new r h e p d = record {
+  inside = rw (p .place, puts-length buffer at (b ∷ []) new r p) (after-inside (length buffer) at (b ∷ []) (d .inside));
+  size = puts-length buffer at (b ∷ []) new r p ∙ d .size;
+  puts = putting-more old 0 (bytesOf w) buffer at (b ∷ []) (bytesOf (drop (2 * (k + 1)) w)) new r
+    (rw (bytes-next w k h, ← e) at (d .puts)) p;
+}
+
+pub decodes-all : (old w : List ℕ) (k : ℕ) (buffer : List ℕ) (at : ℕ) → length w / 2 ≤ k → Decodes old w k buffer at →
+    Puts old 0 (bytesOf w) buffer at × Counts at buffer
+decodes-all old w k buffer at h d =
+    (putting-all old 0 (bytesOf w) buffer at (rw (bytes-none w k h) at (d .puts)), (d .inside, sym (length-take-le at buffer (d .inside))))

@@ -47,10 +47,10 @@ pub(crate) fn decode(word: &[u8], buffer: &mut [u8]) -> usize
     ensures { λ r. ⌜ Counts r (now (buffer .exit)) ⌝ }
 {
     let mut at = 0;
-    let mut i = 1;
-    while i < word.len() {
-        at = text::put(buffer, at, pair(word[i - 1], word[i]));
-        i += 2;
+    let mut k = 0;
+    while k < word.len() / 2 {
+        at = text::put(buffer, at, pair(word[2 * k], word[2 * k + 1]));
+        k += 1;
     }
     at
 }

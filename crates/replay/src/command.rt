@@ -77,7 +77,7 @@ fn room(line: &[u8], n: usize) -> Number
     numbers::at_most(decimal(line, n), 4096)
 }
 
-fn three(line: &[u8]) -> Three
+fn three_numbers(line: &[u8]) -> Three
     ensures { λ r. ⌜ r ≡ threeAt (now (line .entry)) ⌝ }
 {
     let Number::Value(first) = decimal(line, 1) else {
@@ -249,11 +249,11 @@ fn by_keyword(keyword: Keyword, line: &[u8]) -> Command
     ensures { λ r. ⌜ r ≡ byKeyword keyword (now (line .entry)) ⌝ }
 {
     match keyword {
-        Keyword::Open => open(three(line)),
+        Keyword::Open => open(three_numbers(line)),
         Keyword::Register => register(hex(line, 1), numbers::to_byte(hex(line, 2))),
-        Keyword::Lamp => lamp(three(line)),
-        Keyword::Group => group(three(line)),
-        Keyword::Switch => switch(three(line)),
+        Keyword::Lamp => lamp(three_numbers(line)),
+        Keyword::Group => group(three_numbers(line)),
+        Keyword::Switch => switch(three_numbers(line)),
         Keyword::Scene => scene(words::word(line, 1)),
         Keyword::Update => list(ListCall::Update, room(line, 1)),
         Keyword::Reset => list(ListCall::Reset, room(line, 1)),

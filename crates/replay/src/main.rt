@@ -41,18 +41,18 @@ fn new_player() -> Player {
 }
 
 // The text so far is written where there is too little room behind it for another line.
-fn flushed(text: &[u8; TEXT], at: usize, full: usize) -> usize {
+fn flushed(text: &[u8], at: usize, full: usize) -> usize {
     if at < full {
         return at;
     }
-    if at <= TEXT {
+    if at <= text.len() {
         io::write_all(libc::STDOUT_FILENO, &text[..at]);
     }
     0
 }
 
 // A line that is a call or not: what it prints goes to the text.
-fn play(mut player: Player, line: &[u8], text: &mut [u8; TEXT]) -> Player {
+fn play(mut player: Player, line: &[u8], text: &mut [u8]) -> Player {
     let mut buffer = [0xA5u8; run::ROOM];
     let session = player.session;
     let ran = run::run(session, line, &mut buffer);
@@ -66,16 +66,16 @@ fn play(mut player: Player, line: &[u8], text: &mut [u8; TEXT]) -> Player {
 }
 
 // A line that is longer than its buffer.
-fn play_long(mut player: Player, text: &mut [u8; TEXT]) -> Player {
+fn play_long(mut player: Player, text: &mut [u8]) -> Player {
     let next = print::put_line(text, player.at, Reply::Bad, b"");
     player.at = flushed(text, next, FULL);
     player
 }
 
-fn line_ended(mut player: Player, line: &[u8; LONGEST], text: &mut [u8; TEXT]) -> Player {
+fn line_ended(mut player: Player, line: &[u8], text: &mut [u8]) -> Player {
     let length = player.length;
     player.length = 0;
-    if length <= LONGEST {
+    if length <= line.len() {
         play(player, &line[..length], text)
     } else {
         play_long(player, text)
@@ -95,11 +95,11 @@ fn line_end(block: &[u8], from: usize) -> usize {
 }
 
 // The length of a line that gets these bytes more.
-fn lengthened(line: &mut [u8; LONGEST], length: usize, bytes: &[u8]) -> usize {
-    if LONGEST < length {
+fn lengthened(line: &mut [u8], length: usize, bytes: &[u8]) -> usize {
+    if line.len() < length {
         return length;
     }
-    if LONGEST - length < bytes.len() {
+    if line.len() - length < bytes.len() {
         return LONGEST + 1;
     }
     text::put_text(line, length, bytes)
@@ -108,8 +108,8 @@ fn lengthened(line: &mut [u8; LONGEST], length: usize, bytes: &[u8]) -> usize {
 fn play_block(
     mut player: Player,
     block: &[u8],
-    line: &mut [u8; LONGEST],
-    text: &mut [u8; TEXT],
+    line: &mut [u8],
+    text: &mut [u8],
 ) -> Player {
     let mut from = 0;
     while from < block.len() {
@@ -129,7 +129,7 @@ struct Turn {
     got: isize,
 }
 
-fn play_some(turn: Turn, line: &mut [u8; LONGEST], text: &mut [u8; TEXT]) -> Turn {
+fn play_some(turn: Turn, line: &mut [u8], text: &mut [u8]) -> Turn {
     let mut block = io::large_buffer();
     let got = libc::read(libc::STDIN_FILENO, &mut block);
     let n = io::count(got, &block);
@@ -144,7 +144,7 @@ fn play_some(turn: Turn, line: &mut [u8; LONGEST], text: &mut [u8; TEXT]) -> Tur
 
 // A proved loop has to end, and nothing says that the input does. So the loop counts its turns down, from a number that no run
 // uses up.
-fn play_all(line: &mut [u8; LONGEST], text: &mut [u8; TEXT]) -> Player {
+fn play_all(line: &mut [u8], text: &mut [u8]) -> Player {
     let player = new_player();
     let mut turn = Turn {
         player: player,

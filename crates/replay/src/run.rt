@@ -115,7 +115,7 @@ fn with_world(mut session: Session, stepped: Stepped) -> Called {
     }
 }
 
-fn called(mut session: Session, request: Request, lent: &mut [u8]) -> Called {
+fn call(mut session: Session, request: Request, lent: &mut [u8]) -> Called {
     let ledger = session.ledger;
     let ledger = history::enter(ledger, request, lent);
     session.ledger = ledger;
@@ -139,22 +139,22 @@ fn plain(called: Called) -> Ran {
 
 fn scene(session: Session, word: &[u8], buffer: &mut [u8]) -> Ran {
     let n = bytes::decode(word, buffer);
-    plain(called(session, Request::Scene, &mut buffer[..n]))
+    plain(call(session, Request::Scene, &mut buffer[..n]))
 }
 
-fn list_called(session: Session, call: ListCall, lent: &mut [u8]) -> Called {
+fn list_called(session: Session, kind: ListCall, lent: &mut [u8]) -> Called {
     let world = session.world;
-    match call {
-        ListCall::Update => called(session, Request::Update, lent),
-        ListCall::Reset => called(session, Request::Reset, lent),
+    match kind {
+        ListCall::Update => call(session, Request::Update, lent),
+        ListCall::Reset => call(session, Request::Reset, lent),
         ListCall::ClearOpens => with_world(session, history::clear_opens(world, lent)),
         ListCall::ClearShorts => with_world(session, history::clear_shorts(world, lent)),
     }
 }
 
 // Only Update says how many bytes it needs.
-fn short_reply(call: ListCall, needed: usize, number: u8) -> Reply {
-    match call {
+fn short_reply(kind: ListCall, needed: usize, number: u8) -> Reply {
+    match kind {
         ListCall::Update => Reply::Short(needed),
         ListCall::Reset => Reply::Refused(number),
         ListCall::ClearOpens => Reply::Refused(number),
@@ -162,30 +162,30 @@ fn short_reply(call: ListCall, needed: usize, number: u8) -> Reply {
     }
 }
 
-fn list_reply(call: ListCall, answer: ListAnswer) -> Reply {
+fn list_reply(kind: ListCall, answer: ListAnswer) -> Reply {
     let number = update::list_number(answer);
     match answer {
         ListAnswer::Listed { n, t } => Reply::Listed(n, t),
-        ListAnswer::Short { needed } => short_reply(call, needed, number),
+        ListAnswer::Short { needed } => short_reply(kind, needed, number),
         ListAnswer::Refused(_) => Reply::Refused(number),
     }
 }
 
-fn reply_of(call: ListCall, answer: CallAnswer) -> Reply {
+fn reply_of(kind: ListCall, answer: CallAnswer) -> Reply {
     match answer {
         CallAnswer::Setting(answer) => Reply::Number(map::answer_number(answer)),
-        CallAnswer::List(answer) => list_reply(call, answer),
+        CallAnswer::List(answer) => list_reply(kind, answer),
     }
 }
 
-fn list(session: Session, call: ListCall, room: usize, buffer: &mut [u8]) -> Ran
+fn list(session: Session, kind: ListCall, room: usize, buffer: &mut [u8]) -> Ran
     requires { ⌜ room ≤ length (now buffer) ⌝ }
 {
-    let called = list_called(session, call, &mut buffer[..room]);
+    let called = list_called(session, kind, &mut buffer[..room]);
     let answer = called.answer;
     let session = called.session;
     Ran {
-        reply: reply_of(call, answer),
+        reply: reply_of(kind, answer),
         room: room,
         session: session,
     }
@@ -370,10 +370,10 @@ pub(crate) fn run(session: Session, line: &[u8], buffer: &mut [u8]) -> Ran
     match command {
         Command::Bad => without_buffer(Reply::Bad, session),
         Command::Open { member, bus, pins } => open(session, member, bus, pins),
-        Command::Setting(request) => plain(called(session, request, buffer)),
+        Command::Setting(request) => plain(call(session, request, buffer)),
         Command::Scene => scene(session, words::word(line, 1), buffer),
-        Command::List(call, room) => list(session, call, room, buffer),
-        Command::Power => plain(called(session, Request::PowerLost, buffer)),
+        Command::List(kind, room) => list(session, kind, room, buffer),
+        Command::Power => plain(call(session, Request::PowerLost, buffer)),
         Command::Feed => feed(session, words::word(line, 1), buffer),
         Command::Faults(member, room) => faults(
             session,
