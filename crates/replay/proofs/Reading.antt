@@ -19,7 +19,7 @@ use Rattle.replay.specs.Bytes.{isPairs, isBytes, pairOf, bytesOf}
 use Rattle.text.specs.Text.{Puts}
 use Rattle.text.specs.TextLaws.{after-inside, puts-length, Putting, putting-none, putting-more, putting-all}
 use Rattle.io.specs.Counts.{Counts}
-use Rattle.replay.specs.Words.{spaceOf, firstLength, firstWord, behind, wordAt, wordCount, sameText}
+use Rattle.replay.specs.Words.{spaceOf, lengthTo, firstWord, behind, wordAt, wordCount, sameText}
 
 -- one element, and what is left behind it
 pub next-left : (l : List ℕ) (i : ℕ) → i < length l → drop i l ≡ getD l i 0 ∷ drop (i + 1) l
@@ -41,55 +41,55 @@ count-all l i words h w =
     let none : wordCount (drop i l) ≡ 1 = ap wordCount (drop-of-length-le l h) in
     omega arith
 
--- the end of a word that starts at `from`, as seen from i, which it has not passed
-abbrev pub EndsAt : List ℕ → ℕ → ℕ → Type 0
-EndsAt l from i = i + firstLength (drop i l) ≡ from + firstLength (drop from l)
+-- the end of what starts at `from`, as seen from i, which has not passed it
+abbrev pub EndsAt : ℕ → List ℕ → ℕ → ℕ → Type 0
+EndsAt mark l from i = i + lengthTo mark (drop i l) ≡ from + lengthTo mark (drop from l)
 
-pub end-here : (l : List ℕ) (from i : ℕ) → i < length l → getD l i 0 ≡ 0x20 → EndsAt l from i → i ≡ from + firstLength (drop from l)
-unfolding firstLength
-end-here l from i h e w =
-    let none : firstLength (drop i l) ≡ 0 = ap firstLength (next-left l i h) ∙ rw (eq-eqb _ _ e, firstLength) refl in
+pub end-here : (mark : ℕ) (l : List ℕ) (from i : ℕ) → i < length l → getD l i 0 ≡ mark → EndsAt mark l from i → i ≡ from + lengthTo mark (drop from l)
+unfolding lengthTo
+end-here mark l from i h e w =
+    let none : lengthTo mark (drop i l) ≡ 0 = ap (lengthTo mark) (next-left l i h) ∙ rw (eq-eqb _ _ e, lengthTo) refl in
     omega arith
 
-pub end-more : (l : List ℕ) (from i : ℕ) → i < length l → (getD l i 0 ≡ 0x20 → ⊥) → EndsAt l from i → EndsAt l from (i + 1)
-unfolding firstLength
-end-more l from i h e w =
-    let one : firstLength (drop i l) ≡ suc (firstLength (drop (i + 1) l)) = ap firstLength (next-left l i h) ∙ rw (ne-eqb _ _ e, firstLength) refl in
+pub end-more : (mark : ℕ) (l : List ℕ) (from i : ℕ) → i < length l → (getD l i 0 ≡ mark → ⊥) → EndsAt mark l from i → EndsAt mark l from (i + 1)
+unfolding lengthTo
+end-more mark l from i h e w =
+    let one : lengthTo mark (drop i l) ≡ suc (lengthTo mark (drop (i + 1) l)) = ap (lengthTo mark) (next-left l i h) ∙ rw (ne-eqb _ _ e, lengthTo) refl in
     omega arith
 
-pub end-all : (l : List ℕ) (from i : ℕ) → length l ≤ i → EndsAt l from i → i ≡ from + firstLength (drop from l)
-unfolding firstLength
-end-all l from i h w =
-    let none : firstLength (drop i l) ≡ 0 = ap firstLength (drop-of-length-le l h) in
+pub end-all : (mark : ℕ) (l : List ℕ) (from i : ℕ) → length l ≤ i → EndsAt mark l from i → i ≡ from + lengthTo mark (drop from l)
+unfolding lengthTo
+end-all mark l from i h w =
+    let none : lengthTo mark (drop i l) ≡ 0 = ap (lengthTo mark) (drop-of-length-le l h) in
     omega arith
 
 -- the next word starts behind the end of this one
-pub word-more : (l : List ℕ) (from to n k : ℕ) → to ≡ from + firstLength (drop from l) → 0 < n →
+pub word-more : (l : List ℕ) (from to n k : ℕ) → to ≡ from + lengthTo 0x20 (drop from l) → 0 < n →
     wordAt (drop from l) n ≡ wordAt l k → wordAt (drop (to + 1) l) (n - 1) ≡ wordAt l k
 unfolding wordAt behind
 word-more l from to zero k e h w = absurd (not-suc-le-zero h)
 word-more l from to (suc n) k e h w =
-    let place : to + 1 ≡ from + suc (firstLength (drop from l)) = omega arith in
+    let place : to + 1 ≡ from + suc (lengthTo 0x20 (drop from l)) = omega arith in
     let one : suc n - 1 ≡ n = omega arith in
-    rw (place, one) (ap (λ (x : List ℕ). wordAt x n) (sym (drop-drop (suc (firstLength (drop from l))) from l)) ∙ w)
+    rw (place, one) (ap (λ (x : List ℕ). wordAt x n) (sym (drop-drop (suc (lengthTo 0x20 (drop from l))) from l)) ∙ w)
 
 word-empty : (n : ℕ) → wordAt [] n ≡ []
 unfolding wordAt behind firstWord
-word-empty zero = take-nil (firstLength [])
-word-empty (suc n) = ap (λ (x : List ℕ). wordAt x n) (drop-nil (suc (firstLength []))) ∙ word-empty n
+word-empty zero = take-nil (lengthTo 0x20 [])
+word-empty (suc n) = ap (λ (x : List ℕ). wordAt x n) (drop-nil (suc (lengthTo 0x20 []))) ∙ word-empty n
 
-pub word-none : (l : List ℕ) (from to n k : ℕ) → to ≡ from + firstLength (drop from l) → length l ≤ to → 0 < n →
+pub word-none : (l : List ℕ) (from to n k : ℕ) → to ≡ from + lengthTo 0x20 (drop from l) → length l ≤ to → 0 < n →
     wordAt (drop from l) n ≡ wordAt l k → take (length l - to) (drop to l) ≡ wordAt l k
 word-none l from to n k e h p w =
     ap (take (length l - to)) (drop-of-length-le l h) ∙ take-nil (length l - to)
     ∙ sym (word-empty (n - 1)) ∙ ap (λ (x : List ℕ). wordAt x (n - 1)) (sym (drop-of-length-le l {i = to + 1} (omega arith)))
     ∙ word-more l from to n k e p w
 
-pub word-found : (l : List ℕ) (from to n k : ℕ) → to ≡ from + firstLength (drop from l) → n ≤ 0 →
+pub word-found : (l : List ℕ) (from to n k : ℕ) → to ≡ from + lengthTo 0x20 (drop from l) → n ≤ 0 →
     wordAt (drop from l) n ≡ wordAt l k → take (to - from) (drop from l) ≡ wordAt l k
 unfolding wordAt firstWord
 word-found l from to zero k e h w =
-    let size : to - from ≡ firstLength (drop from l) = omega arith in
+    let size : to - from ≡ lengthTo 0x20 (drop from l) = omega arith in
     rw size w
 word-found l from to (suc n) k e h w = absurd (not-suc-le-zero h)
 
@@ -292,7 +292,7 @@ decodes-more old w k buffer at b new r h e p d = record {
   inside = rw (p .place, puts-length buffer at (b ∷ []) new r p) (after-inside (length buffer) at (b ∷ []) (d .inside));
   size = puts-length buffer at (b ∷ []) new r p ∙ d .size;
   puts = putting-more old 0 (bytesOf w) buffer at (b ∷ []) (bytesOf (drop (2 * (k + 1)) w)) new r
-    (rw (bytes-next w k h, ← e) at (d .puts)) p;
+      (rw (bytes-next w k h, ← e) at (d .puts)) p;
 }
 
 pub decodes-all : (old w : List ℕ) (k : ℕ) (buffer : List ℕ) (at : ℕ) → length w / 2 ≤ k → Decodes old w k buffer at →

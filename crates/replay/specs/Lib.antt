@@ -4,3 +4,4 @@ pub mod Bytes
 pub mod Keywords
 pub mod Commands
 pub mod Replies
+pub mod Run

@@ -6,18 +6,18 @@ use Prim.Native.Nat.{ℕ, zero, suc, _+_}
 use lib.Dec.{eqb}
 use lib.ListN.{length, take, drop}
 
--- how many codes stand before the first space
-unfoldable pub firstLength : List ℕ → ℕ
-firstLength [] = 0
-firstLength (b ∷ l) = elim (eqb b 0x20) [ true ↦ 0 | false ↦ suc (firstLength l) ]
+-- how many codes stand before the first that is the mark
+unfoldable pub lengthTo : ℕ → List ℕ → ℕ
+lengthTo mark [] = 0
+lengthTo mark (b ∷ l) = elim (eqb b mark) [ true ↦ 0 | false ↦ suc (lengthTo mark l) ]
 
 -- the word before the first space
 unfoldable pub firstWord : List ℕ → List ℕ
-firstWord l = take (firstLength l) l
+firstWord l = take (lengthTo 0x20 l) l
 
 -- what stands behind the first space
 unfoldable pub behind : List ℕ → List ℕ
-behind l = drop (suc (firstLength l)) l
+behind l = drop (suc (lengthTo 0x20 l)) l
 
 -- word n, counted from 0; empty where there is none
 unfoldable pub wordAt : List ℕ → ℕ → List ℕ

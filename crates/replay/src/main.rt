@@ -11,6 +11,8 @@ mod print;
 mod run;
 mod words;
 
+ghost use Prim.Native.Nat.{_≤_};
+ghost use lib.ListN.{length};
 use run::Reply;
 use run::Session;
 
@@ -72,7 +74,11 @@ fn play_long(mut player: Player, text: &mut [u8]) -> Player {
     player
 }
 
-fn line_ended(mut player: Player, line: &[u8], text: &mut [u8]) -> Player {
+// The line, where it is over.
+fn line_ended(mut player: Player, over: bool, line: &[u8], text: &mut [u8]) -> Player {
+    if !over {
+        return player;
+    }
     let length = player.length;
     player.length = 0;
     if length <= line.len() {
@@ -80,18 +86,6 @@ fn line_ended(mut player: Player, line: &[u8], text: &mut [u8]) -> Player {
     } else {
         play_long(player, text)
     }
-}
-
-// Where the line ends that goes on at a place of the block: at its LF, or with the block.
-fn line_end(block: &[u8], from: usize) -> usize {
-    let mut i = from;
-    while i < block.len() {
-        if block[i] == b'\n' {
-            return i;
-        }
-        i += 1;
-    }
-    i
 }
 
 // The length of a line that gets these bytes more.
@@ -105,19 +99,14 @@ fn lengthened(line: &mut [u8], length: usize, bytes: &[u8]) -> usize {
     text::put_text(line, length, bytes)
 }
 
-fn play_block(
-    mut player: Player,
-    block: &[u8],
-    line: &mut [u8],
-    text: &mut [u8],
-) -> Player {
+fn play_block(mut player: Player, block: &[u8], line: &mut [u8], text: &mut [u8]) -> Player
+    requires { ⌜ length (now block) ≤ 65536 ⌝ }
+{
     let mut from = 0;
     while from < block.len() {
-        let to = line_end(block, from);
+        let to = words::end(block, from, b'\n');
         player.length = lengthened(line, player.length, &block[from..to]);
-        if to < block.len() {
-            player = line_ended(player, line, text);
-        }
+        player = line_ended(player, to < block.len(), line, text);
         from = to + 1;
     }
     player
@@ -165,7 +154,7 @@ fn main() {
     let player = play_all(&mut line, &mut text);
     // the last line may lack its LF
     if 0 < player.length {
-        let player = line_ended(player, &line, &mut text);
+        let player = line_ended(player, true, &line, &mut text);
         flushed(&text, player.at, 0);
     }
 }

@@ -2,6 +2,7 @@
 ghost use mathlib.Core.Path.{_≡_};
 ghost use Prim.Native.Nat.{_≤_, _<_};
 ghost use lib.ListN.{length};
+ghost use Rattle.replay.specs.Run.{differsAt, compareFrom};
 use crate::bytes;
 use crate::command;
 use crate::command::Command;
@@ -27,7 +28,7 @@ pub(crate) const ROOM: usize = 4096;
 pub(crate) struct Session {
     pub(crate) world: World,
     pub(crate) ledger: Ledger,
-    pub(crate) ledger_valid: bool,
+    pub(crate) valid: bool,
 }
 
 // What the line of output says. BUFFER is all bytes of the buffer that was lent.
@@ -66,7 +67,7 @@ fn new_session(state: Record, chip: Chip, member: usize) -> Session {
     Session {
         world: world,
         ledger: ledger,
-        ledger_valid: true,
+        valid: true,
     }
 }
 
@@ -83,7 +84,9 @@ pub(crate) fn start() -> Session {
     opened(0, 0, 0)
 }
 
-fn number(answer: Answer, session: Session) -> Ran {
+fn number(answer: Answer, session: Session) -> Ran
+    ensures { λ r. ⌜ r .room ≤ 4096 ⌝ }
+{
     Ran {
         reply: Reply::Number(map::answer_number(answer)),
         room: 0,
@@ -91,7 +94,9 @@ fn number(answer: Answer, session: Session) -> Ran {
     }
 }
 
-fn open(session: Session, member: usize, bus: usize, pins: usize) -> Ran {
+fn open(session: Session, member: usize, bus: usize, pins: usize) -> Ran
+    ensures { λ r. ⌜ r .room ≤ 4096 ⌝ }
+{
     let answer = map::open_answer(member, bus, pins);
     match answer {
         Answer::Accepted => number(answer, opened(member, bus, pins)),
@@ -124,7 +129,9 @@ fn call(mut session: Session, request: Request, lent: &mut [u8]) -> Called {
 }
 
 // The reply to a setting or to Power lost.
-fn plain(called: Called) -> Ran {
+fn plain(called: Called) -> Ran
+    ensures { λ r. ⌜ r .room ≤ 4096 ⌝ }
+{
     let answer = called.answer;
     let session = called.session;
     match answer {
@@ -137,7 +144,9 @@ fn plain(called: Called) -> Ran {
     }
 }
 
-fn scene(session: Session, word: &[u8], buffer: &mut [u8]) -> Ran {
+fn scene(session: Session, word: &[u8], buffer: &mut [u8]) -> Ran
+    ensures { λ r. ⌜ r .room ≤ 4096 ⌝ }
+{
     let n = bytes::decode(word, buffer);
     plain(call(session, Request::Scene, &mut buffer[..n]))
 }
@@ -179,7 +188,8 @@ fn reply_of(kind: ListCall, answer: CallAnswer) -> Reply {
 }
 
 fn list(session: Session, kind: ListCall, room: usize, buffer: &mut [u8]) -> Ran
-    requires { ⌜ room ≤ length (now buffer) ⌝ }
+    requires { ⌜ (room ≤ 4096) × (length (now buffer) ≡ 4096) ⌝ }
+    ensures { λ r. ⌜ r .room ≤ 4096 ⌝ }
 {
     let called = list_called(session, kind, &mut buffer[..room]);
     let answer = called.answer;
@@ -191,7 +201,9 @@ fn list(session: Session, kind: ListCall, room: usize, buffer: &mut [u8]) -> Ran
     }
 }
 
-fn feed(mut session: Session, word: &[u8], buffer: &mut [u8]) -> Ran {
+fn feed(mut session: Session, word: &[u8], buffer: &mut [u8]) -> Ran
+    ensures { λ r. ⌜ r .room ≤ 4096 ⌝ }
+{
     let n = bytes::decode(word, buffer);
     let mut world = session.world;
     let chip = world.chip;
@@ -221,7 +233,8 @@ fn faults_reply(answer: faults::Answer) -> Reply {
 
 // The byte string goes to the buffer `given`, the result to the one that is shown.
 fn faults(session: Session, member: usize, word: &[u8], room: usize, buffer: &mut [u8]) -> Ran
-    requires { ⌜ room ≤ length (now buffer) ⌝ }
+    requires { ⌜ (room ≤ 4096) × (length (now buffer) ≡ 4096) ⌝ }
+    ensures { λ r. ⌜ r .room ≤ 4096 ⌝ }
 {
     let mut given = io::buffer();
     let n = bytes::decode(word, &mut given);
@@ -234,19 +247,29 @@ fn faults(session: Session, member: usize, word: &[u8], room: usize, buffer: &mu
 }
 
 // The bytes are shown from the buffer.
-fn show(session: Session, part: Part, buffer: &mut [u8]) -> Ran {
-    let world = session.world;
-    let state = world.state;
-    let chip = world.chip;
-    let room = match part {
-        Part::Settings => text::put_text(buffer, 0, &state.settings),
-        Part::Image => text::put_text(buffer, 0, &state.image),
-        Part::Chip => text::put_text(buffer, 0, &chip.registers),
-    };
+fn shown(session: Session, bytes: &[u8], buffer: &mut [u8]) -> Ran
+    requires { ⌜ length (now buffer) ≡ 4096 ⌝ }
+    ensures { λ r. ⌜ r .room ≤ 4096 ⌝ }
+{
+    let room = text::put_text(buffer, 0, bytes);
     Ran {
         reply: Reply::Bytes,
         room: room,
         session: session,
+    }
+}
+
+fn show(session: Session, part: Part, buffer: &mut [u8]) -> Ran
+    requires { ⌜ length (now buffer) ≡ 4096 ⌝ }
+    ensures { λ r. ⌜ r .room ≤ 4096 ⌝ }
+{
+    let world = session.world;
+    let state = world.state;
+    let chip = world.chip;
+    match part {
+        Part::Settings => shown(session, &state.settings, buffer),
+        Part::Image => shown(session, &state.image, buffer),
+        Part::Chip => shown(session, &chip.registers, buffer),
     }
 }
 
@@ -273,7 +296,9 @@ fn poked_chip(mut chip: Chip, part: Part, address: usize, value: u8) -> Chip
 }
 
 // What is put behind the calls' back: the ledger says nothing any more.
-fn put_behind(session: Session, state: Record, chip: Chip) -> Ran {
+fn put_behind(session: Session, state: Record, chip: Chip) -> Ran
+    ensures { λ r. ⌜ r .room ≤ 4096 ⌝ }
+{
     let world = World {
         state: state,
         chip: chip,
@@ -282,13 +307,14 @@ fn put_behind(session: Session, state: Record, chip: Chip) -> Ran {
     let session = Session {
         world: world,
         ledger: ledger,
-        ledger_valid: false,
+        valid: false,
     };
     number(Answer::Accepted, session)
 }
 
 fn poke(session: Session, part: Part, address: usize, value: u8) -> Ran
     requires { ⌜ address < 908 ⌝ }
+    ensures { λ r. ⌜ r .room ≤ 4096 ⌝ }
 {
     let world = session.world;
     let state = world.state;
@@ -318,7 +344,9 @@ fn headed_chip(mut chip: Chip, entry: Entry, value: u8) -> Chip {
     chip
 }
 
-fn header(session: Session, entry: Entry, value: u8) -> Ran {
+fn header(session: Session, entry: Entry, value: u8) -> Ran
+    ensures { λ r. ⌜ r .room ≤ 4096 ⌝ }
+{
     let world = session.world;
     let state = world.state;
     let chip = world.chip;
@@ -329,22 +357,30 @@ fn header(session: Session, entry: Entry, value: u8) -> Ran {
     )
 }
 
-// The lowest writable address at which chip and ledger differ.
+// Whether a register holds another byte than the ledger asks for: one that no setting can write is not compared.
+fn differs(member: usize, address: usize, held: u8, asked: u8) -> bool
+    ensures { λ r. ⌜ r ≡ differsAt member address held asked ⌝ }
+{
+    if held == asked {
+        return false;
+    }
+    map::writable(member, address)
+}
+
+// The lowest address at which chip and ledger differ.
 fn difference<'a>(member: usize, registers: &'a [u8; 908], ledger: &'a [u8; 908]) -> Reply
-    requires { ⌜ (length (now registers) ≡ 908) × (length (now ledger) ≡ 908) ⌝ }
+    ensures { λ r. ⌜ r ≡ compareFrom member (now (registers .entry)) (now (ledger .entry)) 0 908 ⌝ }
 {
     for address in 0..908 {
-        if registers[address] != ledger[address] {
-            if map::writable(member, address) {
-                return Reply::Differs(address);
-            }
+        if differs(member, address, registers[address], ledger[address]) {
+            return Reply::Differs(address);
         }
     }
     Reply::Same
 }
 
 fn compared(session: Session) -> Reply {
-    if !session.ledger_valid {
+    if !session.valid {
         return Reply::Bad;
     }
     let world = session.world;
@@ -354,7 +390,9 @@ fn compared(session: Session) -> Reply {
     difference(member, &chip.registers, &ledger.bytes)
 }
 
-fn without_buffer(reply: Reply, session: Session) -> Ran {
+fn without_buffer(reply: Reply, session: Session) -> Ran
+    ensures { λ r. ⌜ r .room ≤ 4096 ⌝ }
+{
     Ran {
         reply: reply,
         room: 0,
@@ -365,6 +403,7 @@ fn without_buffer(reply: Reply, session: Session) -> Ran {
 // The call of a line, and all that it changes.
 pub(crate) fn run(session: Session, line: &[u8], buffer: &mut [u8]) -> Ran
     requires { ⌜ length (now buffer) ≡ 4096 ⌝ }
+    ensures { λ r. ⌜ r .room ≤ 4096 ⌝ }
 {
     let command = command::read(line);
     match command {

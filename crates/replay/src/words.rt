@@ -3,7 +3,7 @@
 ghost use mathlib.Core.Path.{_≡_};
 ghost use Prim.Native.Nat.{_+_, _≤_};
 ghost use lib.ListN.{length, drop};
-ghost use Rattle.replay.specs.Words.{spaceOf, firstLength, wordAt, wordCount, sameText};
+ghost use Rattle.replay.specs.Words.{spaceOf, lengthTo, wordAt, wordCount, sameText};
 
 fn space(byte: u8) -> usize
     ensures { λ r. ⌜ (r ≡ spaceOf byte) × (r ≤ 1) ⌝ }
@@ -24,14 +24,14 @@ pub(crate) fn count(line: &[u8]) -> usize
     words
 }
 
-// Where the word ends that starts at a place: the next space, or the line's end.
-fn end(line: &[u8], from: usize) -> usize
-    requires { ⌜ from ≤ length (now line) ⌝ }
-    ensures { λ r. ⌜ (r ≡ from + firstLength (drop from (now (line .entry)))) × (from ≤ r) × (r ≤ length (now (line .entry))) ⌝ }
+// Where what starts at a place ends: at the next mark, or with the text.
+pub(crate) fn end(text: &[u8], from: usize, mark: u8) -> usize
+    requires { ⌜ from ≤ length (now text) ⌝ }
+    ensures { λ r. ⌜ (r ≡ from + lengthTo mark (drop from (now (text .entry)))) × (from ≤ r) × (r ≤ length (now (text .entry))) ⌝ }
 {
     let mut i = from;
-    while i < line.len() {
-        if line[i] == b' ' {
+    while i < text.len() {
+        if text[i] == mark {
             return i;
         }
         i += 1;
@@ -46,14 +46,14 @@ pub(crate) fn word(line: &[u8], n: usize) -> &[u8]
     let mut from = 0;
     let mut left = n;
     while 0 < left {
-        let to = end(line, from);
+        let to = end(line, from, b' ');
         if line.len() <= to {
             return &line[to..];
         }
         from = to + 1;
         left -= 1;
     }
-    let to = end(line, from);
+    let to = end(line, from, b' ');
     &line[from..to]
 }
 

@@ -30,8 +30,10 @@ enum-told-2 c = search needs
 
 returns-2 : tie.Need-returns-2
 unfolding threeAt threeOf
-returns-2 c = rw (sym (c .before .before .before .before .before .before .decimal .ensures) ∙ c .before .before .before .before .first .given .1,
-    sym (c .before .before .decimal2 .ensures) ∙ c .enum-told2 .given .1) refl
+returns-2 c = rw (
+  sym (c .before .before .before .before .before .before .decimal .ensures) ∙ c .before .before .before .before .first .given .1,
+  sym (c .before .before .decimal2 .ensures) ∙ c .enum-told2 .given .1,
+) refl
 
 decimal-requires-3 : tie.Need-decimal-requires-3
 decimal-requires-3 c κs = search needs
@@ -44,15 +46,19 @@ enum-told-3 c = search needs
 
 returns-3 : tie.Need-returns-3
 unfolding threeAt threeOf
-returns-3 c = rw (sym (c .before .before .before .before .before .before .before .before .before .before .decimal .ensures) ∙ c .before .before .before .before .before .before .before .before .first .given .1,
-    sym (c .before .before .before .before .before .before .decimal2 .ensures) ∙ c .before .before .before .before .second .given .1,
-    sym (c .before .before .decimal3 .ensures) ∙ c .enum-told3 .given .1) refl
+returns-3 c = rw (
+  sym (c .before .before .before .before .before .before .before .before .before .before .decimal .ensures) ∙ c .before .before .before .before .before .before .before .before .first .given .1,
+  sym (c .before .before .before .before .before .before .decimal2 .ensures) ∙ c .before .before .before .before .second .given .1,
+  sym (c .before .before .decimal3 .ensures) ∙ c .enum-told3 .given .1,
+) refl
 
 returns-4 : tie.Need-returns-4
 unfolding threeAt threeOf
-returns-4 c = rw (sym (c .before .before .before .before .before .before .before .before .before .before .before .decimal .ensures) ∙ c .before .before .before .before .before .before .before .before .before .first .given .1,
-    sym (c .before .before .before .before .before .before .before .decimal2 .ensures) ∙ c .before .before .before .before .before .second .given .1,
-    sym (c .before .before .before .decimal3 .ensures) ∙ c .before .third .given .1) refl
+returns-4 c = rw (
+  sym (c .before .before .before .before .before .before .before .before .before .before .before .decimal .ensures) ∙ c .before .before .before .before .before .before .before .before .before .first .given .1,
+  sym (c .before .before .before .before .before .before .before .decimal2 .ensures) ∙ c .before .before .before .before .before .second .given .1,
+  sym (c .before .before .before .decimal3 .ensures) ∙ c .before .third .given .1,
+) refl
 
 pub three-numbers-spec : {M : Type 1} → statement M
 three-numbers-spec =

@@ -24,8 +24,10 @@ same-requires-2 c κs = search needs
 
 returns-2 : tie.Need-returns-2
 unfolding entryOf
-returns-2 c = rw (sym (c .before .before .before .before .same .ensures) ∙ c .before .before .before .if1 .left,
-    sym (c .before .same2 .ensures) ∙ c .if2 .taken) refl
+returns-2 c = rw (
+  sym (c .before .before .before .before .same .ensures) ∙ c .before .before .before .if1 .left,
+  sym (c .before .same2 .ensures) ∙ c .if2 .taken,
+) refl
 
 slice-aggregate-same-3 : tie.Need-slice-aggregate-same-3
 slice-aggregate-same-3 c = search needs
@@ -35,15 +37,19 @@ same-requires-3 c κs = search needs
 
 returns-3 : tie.Need-returns-3
 unfolding entryOf
-returns-3 c = rw (sym (c .before .before .before .before .before .before .before .same .ensures) ∙ c .before .before .before .before .before .before .if1 .left,
-    sym (c .before .before .before .before .same2 .ensures) ∙ c .before .before .before .if2 .left,
-    sym (c .before .same3 .ensures) ∙ c .if3 .taken) refl
+returns-3 c = rw (
+  sym (c .before .before .before .before .before .before .before .same .ensures) ∙ c .before .before .before .before .before .before .if1 .left,
+  sym (c .before .before .before .before .same2 .ensures) ∙ c .before .before .before .if2 .left,
+  sym (c .before .same3 .ensures) ∙ c .if3 .taken,
+) refl
 
 returns-4 : tie.Need-returns-4
 unfolding entryOf
-returns-4 c = rw (sym (c .before .before .before .before .before .before .before .same .ensures) ∙ c .before .before .before .before .before .before .if1 .left,
-    sym (c .before .before .before .before .same2 .ensures) ∙ c .before .before .before .if2 .left,
-    sym (c .before .same3 .ensures) ∙ c .if3 .left) refl
+returns-4 c = rw (
+  sym (c .before .before .before .before .before .before .before .same .ensures) ∙ c .before .before .before .before .before .before .if1 .left,
+  sym (c .before .before .before .before .same2 .ensures) ∙ c .before .before .before .if2 .left,
+  sym (c .before .same3 .ensures) ∙ c .if3 .left,
+) refl
 
 pub entry-named-spec : {M : Type 1} → statement M
 entry-named-spec =

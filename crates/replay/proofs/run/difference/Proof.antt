@@ -1,50 +1,46 @@
+-- `replay::run::difference` meets its contract.
+-- Assumes nothing.
+use native.Mathlib.Omega.{arith}
+use borrow.Author.Needs.{needs}
+use Rattle.replay.proofs.Playing.{compare-more, compare-found, compare-all}
+use Rattle.replay.specs.Run.{compareFrom}
+use mathlib.Core.Path.{_≡_, refl}
+use Prim.Native.Nat.{_-_, _≤_}
 use Rattle.replay.proofs.run.difference.Statement.{statement}
 use Rattle.replay.proofs.run.difference.Tie as tie
-use Rattle.replay.proofs.run.difference.Reads as reads
-use Rattle.replay.proofs.run.difference.Lts as lts
-use Rattle.map.proofs.writable.Reads as writable-reads
 
 abbrev Inv-loop : tie.InvT-loop
-Inv-loop member registers ledger address₀ address = ?
+Inv-loop member registers ledger address₀ address = (address ≤ 908) × (compareFrom member registers ledger address (908 - address) ≡ compareFrom member registers ledger 0 908)
 
 abbrev μ-loop : tie.MeasureT-loop
-μ-loop member registers ledger address₀ address = ?
+μ-loop member registers ledger address₀ address = 908 - address
 
--- src/run.rt:336:5
 loop-holds : tie.Need-loop-holds Inv-loop μ-loop
-loop-holds c = ?
+loop-holds c = (omega arith, refl)
 
--- src/run.rt:337:12
-element-copy-out-if1 : tie.Need-element-copy-out-if1 Inv-loop μ-loop
-element-copy-out-if1 c = ?
+element-copy-out-differs : tie.Need-element-copy-out-differs Inv-loop μ-loop
+element-copy-out-differs c = omega arith
 
--- src/run.rt:337:34
-element-copy-out-if1-2 : tie.Need-element-copy-out-if1-2 Inv-loop μ-loop
-element-copy-out-if1-2 c = ?
+element-copy-out-differs-2 : tie.Need-element-copy-out-differs-2 Inv-loop μ-loop
+element-copy-out-differs-2 c = omega arith
 
--- src/run.rt:338:16
-writable-requires : tie.Need-writable-requires Inv-loop μ-loop
-writable-requires c κs = ?
+differs-requires : tie.Need-differs-requires Inv-loop μ-loop
+differs-requires c κs = search needs
 
--- src/run.rt:339:17
 returns : tie.Need-returns Inv-loop μ-loop
-returns c = ?
+returns c = compare-found _ _ _ _ _ (c .before .before .before .before .loop-test .taken) (c .before .differs .ensures) (c .if1 .taken) (c .before .before .before .before .before .loop .inv .1)
 
--- src/run.rt:336:9
 add-address : tie.Need-add-address Inv-loop μ-loop
-add-address c = ?
+add-address c = omega arith
 
--- src/run.rt:336:5
 loop-less : tie.Need-loop-less Inv-loop μ-loop
-loop-less c = ?
+loop-less c = omega arith
 
--- src/run.rt:336:5
 loop-again : tie.Need-loop-again Inv-loop μ-loop
-loop-again c = ?
+loop-again c = (omega arith, compare-more _ _ _ _ _ (c .before .before .before .before .loop-test .taken) (c .before .differs .ensures) (c .if1 .left) (c .before .before .before .before .before .loop .inv .1))
 
--- src/run.rt:333:1
 returns-2 : tie.Need-returns-2 Inv-loop μ-loop
-returns-2 c = ?
+returns-2 c = compare-all _ _ _ _ (c .loop-test .left) (c .before .loop .inv .1)
 
 pub difference-spec : {M : Type 1} → statement M
 difference-spec =
@@ -53,9 +49,9 @@ difference-spec =
     Inv-loop
     μ-loop
     loop-holds
-    element-copy-out-if1
-    element-copy-out-if1-2
-    writable-requires
+    element-copy-out-differs
+    element-copy-out-differs-2
+    differs-requires
     returns
     add-address
     loop-less

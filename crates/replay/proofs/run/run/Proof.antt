@@ -1,220 +1,157 @@
+-- `replay::run::run` meets its contract.
+-- Assumes nothing.
+use Rattle.replay.proofs.Judging.{list-room, faults-room, poke-address}
 use borrow.Author.Needs.{needs}
 use Rattle.replay.proofs.run.run.Statement.{statement}
 use Rattle.replay.proofs.run.run.Tie as tie
-use Rattle.replay.proofs.run.run.Reads as reads
-use Rattle.replay.proofs.run.run.Lts as lts
-use Rattle.replay.proofs.command.read.Reads as read-reads
-use Rattle.replay.proofs.run.call.Reads as call-reads
-use Rattle.replay.proofs.run.compared.Reads as compared-reads
-use Rattle.replay.proofs.run.faults.Reads as faults-reads
-use Rattle.replay.proofs.run.feed.Reads as feed-reads
-use Rattle.replay.proofs.run.header.Reads as header-reads
-use Rattle.replay.proofs.run.list.Reads as list-reads
-use Rattle.replay.proofs.run.open.Reads as open-reads
-use Rattle.replay.proofs.run.plain.Reads as plain-reads
-use Rattle.replay.proofs.run.poke.Reads as poke-reads
-use Rattle.replay.proofs.run.scene.Reads as scene-reads
-use Rattle.replay.proofs.run.show.Reads as show-reads
-use Rattle.replay.proofs.run.without_buffer.Reads as without-buffer-reads
-use Rattle.replay.proofs.words.word.Reads as word-reads
 
--- src/run.rt:369:9
 read-requires : tie.Need-read-requires
 read-requires c κs = search needs
 
--- src/run.rt:371:40
 enum-told : tie.Need-enum-told
 enum-told c = search needs
 
--- src/run.rt:371:25
 without-buffer-requires : tie.Need-without-buffer-requires
 without-buffer-requires c κs = search needs
 
--- src/run.rt:372:25
 enum-known-command : tie.Need-enum-known-command
 enum-known-command c = search needs
 
--- src/run.rt:372:48
 open-requires : tie.Need-open-requires
 open-requires c κs = search needs
 
--- src/run.rt:373:26
 enum-known-command-2 : tie.Need-enum-known-command-2
 enum-known-command-2 c = search needs
 
--- src/run.rt:373:44
 call-requires : tie.Need-call-requires
 call-requires c κs = search needs
 
--- src/run.rt:373:38
 plain-requires : tie.Need-plain-requires
 plain-requires c κs = search needs
 
--- src/run.rt:374:42
 enum-told-2 : tie.Need-enum-told-2
 enum-told-2 c = search needs
 
--- src/run.rt:374:42
 word-requires : tie.Need-word-requires
 word-requires c κs = search needs
 
--- src/run.rt:374:27
 scene-requires : tie.Need-scene-requires
 scene-requires c κs = search needs
 
--- src/run.rt:375:23
 enum-known-command-3 : tie.Need-enum-known-command-3
 enum-known-command-3 c = search needs
 
--- src/run.rt:375:38
 list-requires : tie.Need-list-requires
-list-requires c κs = ?
+list-requires c κs = (list-room _ _ _ _ (c .before .before .before .before .read .ensures) (c .before .before .command3 .given .1), c .before .before .before .before .before .before .before .pre)
 
--- src/run.rt:376:47
 enum-told-3 : tie.Need-enum-told-3
 enum-told-3 c = search needs
 
--- src/run.rt:376:33
 call-requires-2 : tie.Need-call-requires-2
 call-requires-2 c κs = search needs
 
--- src/run.rt:376:27
 plain-requires-2 : tie.Need-plain-requires-2
 plain-requires-2 c κs = search needs
 
--- src/run.rt:377:40
 enum-told-4 : tie.Need-enum-told-4
 enum-told-4 c = search needs
 
--- src/run.rt:377:40
 word-requires-2 : tie.Need-word-requires-2
 word-requires-2 c κs = search needs
 
--- src/run.rt:377:26
 feed-requires : tie.Need-feed-requires
 feed-requires c κs = search needs
 
--- src/run.rt:378:25
 enum-known-command-4 : tie.Need-enum-known-command-4
 enum-known-command-4 c = search needs
 
--- src/run.rt:381:13
 word-requires-3 : tie.Need-word-requires-3
 word-requires-3 c κs = search needs
 
--- src/run.rt:378:42
 faults-requires : tie.Need-faults-requires
-faults-requires c κs = ?
+faults-requires c κs = (faults-room _ _ _ _ (c .before .before .before .before .before .read .ensures) (c .before .before .before .command4 .given .1), c .before .before .before .before .before .before .before .before .pre)
 
--- src/run.rt:385:23
 enum-known-command-5 : tie.Need-enum-known-command-5
 enum-known-command-5 c = search needs
 
--- src/run.rt:385:32
 show-requires : tie.Need-show-requires
 show-requires c κs = search needs
 
--- src/run.rt:387:13
 enum-known-command-6 : tie.Need-enum-known-command-6
 enum-known-command-6 c = search needs
 
--- src/run.rt:390:14
 poke-requires : tie.Need-poke-requires
-poke-requires c κs = ?
+poke-requires c κs = poke-address _ _ _ _ _ (c .before .before .before .read .ensures) (c .before .command6 .given .1)
 
--- src/run.rt:391:27
 enum-known-command-7 : tie.Need-enum-known-command-7
 enum-known-command-7 c = search needs
 
--- src/run.rt:391:45
 header-requires : tie.Need-header-requires
 header-requires c κs = search needs
 
--- src/run.rt:392:42
 enum-told-5 : tie.Need-enum-told-5
 enum-told-5 c = search needs
 
--- src/run.rt:392:42
 compared-requires : tie.Need-compared-requires
 compared-requires c κs = search needs
 
--- src/run.rt:392:27
 without-buffer-requires-2 : tie.Need-without-buffer-requires-2
 without-buffer-requires-2 c κs = search needs
 
--- src/run.rt:366:1
 returns : tie.Need-returns
 returns c = search needs
 
--- src/run.rt:366:1
 returns-2 : tie.Need-returns-2
 returns-2 c = search needs
 
--- src/run.rt:366:1
 same-length : tie.Need-same-length
 same-length c = search needs
 
--- src/run.rt:366:1
 returns-3 : tie.Need-returns-3
 returns-3 c = search needs
 
--- src/run.rt:366:1
 same-length-2 : tie.Need-same-length-2
 same-length-2 c = search needs
 
--- src/run.rt:366:1
 returns-4 : tie.Need-returns-4
 returns-4 c = search needs
 
--- src/run.rt:366:1
 same-length-3 : tie.Need-same-length-3
 same-length-3 c = search needs
 
--- src/run.rt:366:1
 returns-5 : tie.Need-returns-5
 returns-5 c = search needs
 
--- src/run.rt:366:1
 same-length-4 : tie.Need-same-length-4
 same-length-4 c = search needs
 
--- src/run.rt:366:1
 returns-6 : tie.Need-returns-6
 returns-6 c = search needs
 
--- src/run.rt:366:1
 same-length-5 : tie.Need-same-length-5
 same-length-5 c = search needs
 
--- src/run.rt:366:1
 returns-7 : tie.Need-returns-7
 returns-7 c = search needs
 
--- src/run.rt:366:1
 same-length-6 : tie.Need-same-length-6
 same-length-6 c = search needs
 
--- src/run.rt:366:1
 returns-8 : tie.Need-returns-8
 returns-8 c = search needs
 
--- src/run.rt:366:1
 same-length-7 : tie.Need-same-length-7
 same-length-7 c = search needs
 
--- src/run.rt:366:1
 returns-9 : tie.Need-returns-9
 returns-9 c = search needs
 
--- src/run.rt:366:1
 returns-10 : tie.Need-returns-10
 returns-10 c = search needs
 
--- src/run.rt:366:1
 returns-11 : tie.Need-returns-11
 returns-11 c = search needs
 
--- src/run.rt:366:1
 returns-12 : tie.Need-returns-12
 returns-12 c = search needs
 
