@@ -1,0 +1,3 @@
+mod Reading
+mod Judging
+mod Playing

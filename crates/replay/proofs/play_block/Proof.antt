@@ -1,0 +1,73 @@
+-- `replay::play_block` meets its contract.
+-- Assumes nothing.
+use borrow.Author.Needs.{needs}
+use lib.ListN.{length}
+use mathlib.Core.Path.{_≡_, refl}
+use Prim.Native.Nat.{_≤_, _+_, _-_}
+use Rattle.replay.proofs.play_block.Statement.{statement}
+use Rattle.replay.proofs.play_block.Tie as tie
+
+abbrev Inv-loop : tie.InvT-loop
+Inv-loop player₀ block line₀ text₀ from₀ player line text from = (length line ≡ length line₀) × (length text ≡ length text₀)
+
+abbrev μ-loop : tie.MeasureT-loop
+μ-loop player₀ block line₀ text₀ from₀ player line text from = length block - from
+
+loop-holds : tie.Need-loop-holds Inv-loop μ-loop
+loop-holds c = search needs
+
+end-requires : tie.Need-end-requires Inv-loop μ-loop
+end-requires c κs = search needs
+
+sub-lengthened : tie.Need-sub-lengthened Inv-loop μ-loop
+sub-lengthened c = search needs
+
+part-lengthened-start : tie.Need-part-lengthened-start Inv-loop μ-loop
+part-lengthened-start c = search needs
+
+part-lengthened-end : tie.Need-part-lengthened-end Inv-loop μ-loop
+part-lengthened-end c = search needs
+
+lengthened-requires : tie.Need-lengthened-requires Inv-loop μ-loop
+lengthened-requires c κs = search needs
+
+line-ended-requires : tie.Need-line-ended-requires Inv-loop μ-loop
+line-ended-requires c κs = search needs
+
+add-from : tie.Need-add-from Inv-loop μ-loop
+add-from c = search needs
+
+loop-less : tie.Need-loop-less Inv-loop μ-loop
+loop-less c = search needs
+
+loop-again : tie.Need-loop-again Inv-loop μ-loop
+loop-again c = search needs
+
+same-length : tie.Need-same-length Inv-loop μ-loop
+same-length c = search needs
+
+same-length-2 : tie.Need-same-length-2 Inv-loop μ-loop
+same-length-2 c = search needs
+
+returns : tie.Need-returns Inv-loop μ-loop
+returns c = search needs
+
+pub play-block-spec : {M : Type 1} → statement M
+play-block-spec =
+    tie.close
+    (tie.spec
+    Inv-loop
+    μ-loop
+    loop-holds
+    end-requires
+    sub-lengthened
+    part-lengthened-start
+    part-lengthened-end
+    lengthened-requires
+    line-ended-requires
+    add-from
+    loop-less
+    loop-again
+    same-length
+    same-length-2
+    returns)

@@ -1,0 +1,18 @@
+-- `replay::run::shown` meets its contract.
+-- Assumes nothing.
+use Rattle.replay.proofs.Playing.{shown-room}
+use borrow.Author.Needs.{needs}
+use Rattle.replay.proofs.run.shown.Statement.{statement}
+use Rattle.replay.proofs.run.shown.Tie as tie
+
+put-text-requires : tie.Need-put-text-requires
+put-text-requires c κs = search needs
+
+same-length : tie.Need-same-length
+same-length c = search needs
+
+returns : tie.Need-returns
+returns c = shown-room _ _ _ _ (c .before .before .before .before .before .before .pre) (c .before .before .put-text .ensures)
+
+pub shown-spec : {M : Type 1} → statement M
+shown-spec = tie.close (tie.spec put-text-requires same-length returns)
