@@ -1,7 +1,7 @@
 -- What a call answers and stores, once the calls on values are done.
 -- Assumes nothing.
-use mathlib.Core.Path.{_≡_, refl, sym, ap, subst, _∙_}
-use mathlib.Core.Bool.{Bool, true, false, cond, false≢true}
+use mathlib.Core.Path.{_≡_, refl, subst}
+use mathlib.Core.Bool.{Bool, true, false, cond}
 use mathlib.Core.List.{List}
 use Prim.Native.Nat.{ℕ, _<_, _≤_, _^_}
 use native.Mathlib.Omega.{arith}
@@ -28,7 +28,7 @@ use Rattle.update.specs.declared.Updated.{Updated}
 use Rattle.update.specs.Update.{isListed, listNumber, listSize, writesOf, updateAnswer, updateOf, commandAnswer, chipResetOf, clearOf}
 use Rattle.update.specs.BoundLaws.{bus-most, writes-few, size-most}
 use Rattle.chip.specs.declared.Chip.{Chip}
-use Rattle.capi.specs.Capi.{recordIn, recordBytes, chipBytes, recordSized, chipSized, whenSized, settingNumber, settingBytes, chipNumber, chipAfter, listAnswer, listBytes, bufferAfter, nAfter, tAfter, neededAfter, Fits}
+use Rattle.capi.specs.Capi.{recordBytes, chipBytes, recordSized, chipSized, whenSized, settingNumber, settingBytes, chipNumber, chipAfter, nAfter, tAfter, neededAfter, Fits}
 
 pub record-sized : (bytes : List ℕ) → length bytes ≡ 1819 → recordSized bytes ≡ true
 unfolding recordSized
