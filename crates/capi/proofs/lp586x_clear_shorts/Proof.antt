@@ -1,0 +1,33 @@
+-- `capi::lp586x_clear_shorts` meets its contract.
+-- Assumes nothing.
+use mathlib.Core.Path.{refl}
+use borrow.Author.Needs.{needs}
+use Rattle.capi.proofs.Settled.{record-sized, record-unsized, fits-same, clear-fits}
+use Rattle.capi.specs.Capi.{listAnswer, bufferAfter}
+use Rattle.capi.proofs.lp586x_clear_shorts.Statement.{statement}
+use Rattle.capi.proofs.lp586x_clear_shorts.Tie as tie
+
+returns : tie.Need-returns
+unfolding listAnswer bufferAfter
+returns c = rw (record-unsized (c .before .before .before .args .bytes .now) (c .if1 .taken)) (refl, (refl, (refl, refl)))
+
+load-requires : tie.Need-load-requires
+load-requires c κs = search needs
+
+clear-shorts-requires : tie.Need-clear-shorts-requires
+clear-shorts-requires c κs = search needs
+
+count-requires : tie.Need-count-requires
+count-requires c κs = fits-same _ _ (c .before .before .before .before .clear-shorts .ensures .0) (clear-fits _ _)
+
+same-length : tie.Need-same-length
+same-length c = search needs
+
+returns-2 : tie.Need-returns-2
+unfolding listAnswer bufferAfter
+returns-2 c = rw (← (c .before .before .before .before .before .before .before .load .ensures), ← (c .before .before .before .before .before .clear-shorts .ensures .0), record-sized (c .before .before .before .before .before .before .before .before .before .before .before .args .bytes .now) (c .before .before .before .before .before .before .before .before .if1 .left)) (c .count .ensures .0, (c .before .before .before .before .before .clear-shorts .ensures .1, (c .count .ensures .1 .0, c .count .ensures .1 .1)))
+
+pub lp586x-clear-shorts-spec : {M : Type 1} → statement M
+lp586x-clear-shorts-spec =
+    tie.close
+    (tie.spec returns load-requires clear-shorts-requires count-requires same-length returns-2)

@@ -1,0 +1,165 @@
+-- Laws of the C interface: records and chips read back from their bytes, and what a refused call leaves.
+-- Assumes nothing.
+use mathlib.Core.Path.{_≡_, refl, sym, ap, _∙_}
+use mathlib.Core.Bool.{Bool, true, false, cond}
+use mathlib.Core.List.{List, [], _∷_, _++_}
+use Prim.Native.Nat.{ℕ, _≤_}
+use native.Mathlib.Omega.{arith}
+use lib.ListN.{length, getD, take, drop, length-drop, take-append-drop}
+use lib.Seq.{take-all, take-at, drop-at, drop-drop}
+use Rattle.map.specs.declared.refusals.Answer.{Answer}
+use Rattle.map.specs.declared.refusals.Answer as answers
+use Rattle.map.specs.declared.refusals.Refusal.{Refusal}
+use Rattle.map.specs.declared.refusals.Refusal.the-variants.{Member, Bus, Pins, NotWritable, ReservedBit, NoDot, Level, GroupOrState, SceneLength, BufferShort, ListSizes, FaultLength, Unsound}
+use Rattle.map.specs.Refusals.{refusalNumber, answerNumber, accepted}
+use Rattle.host.specs.declared.Record.{Record}
+use Rattle.host.specs.declared.Changed.{Changed}
+use Rattle.host.specs.Record.{recordOf}
+use Rattle.update.specs.declared.ListAnswer.{ListAnswer}
+use Rattle.update.specs.declared.ListAnswer.the-variants.{Listed, Short, Refused}
+use Rattle.update.specs.declared.Updated.{Updated}
+use Rattle.update.specs.Update.{isListed, listNumber, updateAnswer, updateOf, updateBuffer, commandAnswer, commandBuffer, chipResetOf, resetBuffer, clearOf, clearOpensBuffer, clearShortsBuffer}
+use Rattle.chip.specs.declared.Chip.{Chip}
+use Rattle.chip.specs.Chip.{chipOf}
+use Rattle.faults.specs.Faults.{answered, answerNumbers, faultsChecked, faultsAnswer, faultsResult, opensAgree, shortsAgree}
+use Rattle.capi.specs.Capi.{imageAt, recordIn, recordBytes, chipIn, chipBytes, recordSized, chipSized, whenSized, settingNumber, settingBytes, chipNumber, chipAfter, listAnswer, listBytes, bufferAfter, nAfter, tAfter, neededAfter}
+
+-- ---- the bytes read back
+
+-- the three bytes before the images
+front-back : (bytes : List ℕ) → 3 ≤ length bytes → getD bytes 0 0 ∷ getD bytes 1 0 ∷ getD bytes 2 0 ∷ drop 3 bytes ≡ bytes
+front-back [] h = absurd (omega arith)
+front-back (m ∷ []) h = absurd (omega arith)
+front-back (m ∷ b ∷ []) h = absurd (omega arith)
+front-back (m ∷ b ∷ p ∷ l) h = refl
+
+pub record-round : (bytes : List ℕ) → length bytes ≡ 1819 → recordBytes (recordIn bytes) ≡ bytes
+unfolding recordIn recordBytes
+record-round bytes h =
+    ap (λ (l : List ℕ). getD bytes 0 0 ∷ getD bytes 1 0 ∷ getD bytes 2 0 ∷ imageAt 3 bytes ++ l)
+    (take-all 908 (drop 911 bytes) (omega (arith, length-drop 911 bytes)) ∙ sym (drop-drop 908 3 bytes))
+    ∙ ap (λ (l : List ℕ). getD bytes 0 0 ∷ getD bytes 1 0 ∷ getD bytes 2 0 ∷ l) (take-append-drop 908 (drop 3 bytes))
+    ∙ front-back bytes (omega arith)
+
+pub chip-round : (bytes : List ℕ) → length bytes ≡ 911 → chipBytes (chipIn bytes) ≡ bytes
+unfolding chipIn chipBytes
+chip-round bytes h =
+    ap (λ (l : List ℕ). getD bytes 0 0 ∷ getD bytes 1 0 ∷ getD bytes 2 0 ∷ l) (take-all 908 (drop 3 bytes) (omega (arith, length-drop 3 bytes)))
+    ∙ front-back bytes (omega arith)
+
+pub record-back : (r : Record) → length (r .settings) ≡ 908 → length (r .image) ≡ 908 → recordIn (recordBytes r) ≡ r
+unfolding recordIn recordBytes
+record-back r hs hi =
+    ap (λ (l : List ℕ). recordOf (r .member) (r .bus) (r .pins) l (take 908 (drop 908 (r .settings ++ r .image)))) (take-at (r .settings) (r .image) 908 hs)
+    ∙ ap (λ (l : List ℕ). recordOf (r .member) (r .bus) (r .pins) (r .settings) (take 908 l)) (drop-at (r .settings) (r .image) 908 hs)
+    ∙ ap (λ (l : List ℕ). recordOf (r .member) (r .bus) (r .pins) (r .settings) l) (take-all 908 (r .image) (omega arith))
+
+pub chip-back : (c : Chip) → length (c .registers) ≡ 908 → chipIn (chipBytes c) ≡ c
+unfolding chipIn chipBytes
+chip-back c h = ap (λ (l : List ℕ). chipOf (c .member) (c .bus) (c .pins) l) (take-all 908 (c .registers) (omega arith))
+
+-- ---- 0 is acceptance alone
+
+refusal-some : (x : Refusal) → refusalNumber x ≡ 0 → ⊥
+refusal-some Member e = omega arith
+refusal-some Bus e = omega arith
+refusal-some Pins e = omega arith
+refusal-some NotWritable e = omega arith
+refusal-some ReservedBit e = omega arith
+refusal-some NoDot e = omega arith
+refusal-some Level e = omega arith
+refusal-some GroupOrState e = omega arith
+refusal-some SceneLength e = omega arith
+refusal-some BufferShort e = omega arith
+refusal-some ListSizes e = omega arith
+refusal-some FaultLength e = omega arith
+refusal-some Unsound e = omega arith
+
+pub zero-accepted : (answer : Answer) → answerNumber answer ≡ 0 → accepted answer ≡ true
+zero-accepted answers.the-variants.Accepted e = refl
+zero-accepted (answers.the-variants.Refused x) e = absurd (refusal-some x e)
+
+pub zero-listed : (answer : ListAnswer) → listNumber answer ≡ 0 → isListed answer ≡ true
+zero-listed (Listed n t) e = refl
+zero-listed (Short needed) e = absurd (omega arith)
+zero-listed (Refused x) e = absurd (refusal-some x e)
+
+-- ---- "A refused call changes no byte that was lent to it"
+
+answer-keeps : (answer : Answer) (new old : List ℕ) → (answerNumber answer ≡ 0 → ⊥) → cond (accepted answer) new old ≡ old
+answer-keeps answers.the-variants.Accepted new old n = absurd (n refl)
+answer-keeps (answers.the-variants.Refused x) new old n = refl
+
+pub setting-keeps : (bytes : List ℕ) (x : Changed) → (settingNumber bytes x ≡ 0 → ⊥) → settingBytes bytes x ≡ bytes
+unfolding settingNumber settingBytes
+setting-keeps bytes x n = answer-keeps (whenSized (recordSized bytes) (x .answer)) (recordBytes (x .state)) bytes n
+
+pub chip-keeps : (bytes : List ℕ) (answer : Answer) (c : Chip) → (chipNumber bytes answer ≡ 0 → ⊥) → chipAfter bytes answer c ≡ bytes
+unfolding chipNumber chipAfter
+chip-keeps bytes answer c n = answer-keeps (whenSized (chipSized bytes) answer) (chipBytes c) bytes n
+
+-- ---- calls that write a list
+
+-- a list's answer that is no list leaves n, t and what depends on it
+pub record Kept (answer : ListAnswer) : Type 0 where
+  pub n-stays : (n : ℕ) → nAfter answer n ≡ n
+  pub t-stays : (t : ℕ) → tAfter answer t ≡ t
+  pub unlisted : isListed answer ≡ false
+
+pub list-keeps : (answer : ListAnswer) → (listNumber answer ≡ 0 → ⊥) → Kept answer
+list-keeps (Listed n t) z = absurd (z refl)
+list-keeps (Short needed) z = record { n-stays = λ n. refl; t-stays = λ t. refl; unlisted = refl }
+list-keeps (Refused x) z = record { n-stays = λ n. refl; t-stays = λ t. refl; unlisted = refl }
+
+-- "10 of lp586x_update alone stores the length needed"
+pub needed-keeps : (answer : ListAnswer) (needed : ℕ) → (listNumber answer ≡ 10 → ⊥) → neededAfter answer needed ≡ needed
+needed-keeps (Listed n t) needed z = refl
+needed-keeps (Short size) needed z = absurd (z refl)
+needed-keeps (Refused x) needed z = refl
+
+pub bytes-keep : (bytes : List ℕ) (x : Updated) → (listNumber (listAnswer bytes x) ≡ 0 → ⊥) → listBytes bytes x ≡ bytes
+unfolding listBytes
+bytes-keep bytes x z = rw (list-keeps (listAnswer bytes x) z .unlisted) refl
+
+module _ (bytes buffer : List ℕ) where
+  lent-keeps : (sized : Bool) (answer : ListAnswer) (new : List ℕ) → (listNumber (cond sized answer (Refused Unsound)) ≡ 0 → ⊥) →
+      cond sized (cond (isListed answer) new buffer) buffer ≡ buffer
+  lent-keeps false answer new z = refl
+  lent-keeps true answer new z = rw (list-keeps answer z .unlisted) refl
+
+  pub update-buffer-keeps : (listNumber (listAnswer bytes (updateOf (recordIn bytes) (length buffer))) ≡ 0 → ⊥) →
+      bufferAfter bytes (updateBuffer (recordIn bytes) buffer) buffer ≡ buffer
+  unfolding listAnswer bufferAfter updateOf updateBuffer
+  update-buffer-keeps z = lent-keeps (recordSized bytes) (updateAnswer (recordIn bytes) (length buffer)) _ z
+
+  command-buffer-keeps : (a v : ℕ) → (listNumber (cond (recordSized bytes) (commandAnswer (recordIn bytes) (length buffer)) (Refused Unsound)) ≡ 0 → ⊥) →
+      bufferAfter bytes (commandBuffer (recordIn bytes) a v buffer) buffer ≡ buffer
+  unfolding bufferAfter commandBuffer
+  command-buffer-keeps a v z = lent-keeps (recordSized bytes) (commandAnswer (recordIn bytes) (length buffer)) _ z
+
+  pub reset-buffer-keeps : (listNumber (listAnswer bytes (chipResetOf (recordIn bytes) (length buffer))) ≡ 0 → ⊥) →
+      bufferAfter bytes (resetBuffer (recordIn bytes) buffer) buffer ≡ buffer
+  unfolding listAnswer chipResetOf
+  reset-buffer-keeps z = command-buffer-keeps 0x0A9 0xFF z
+
+  pub clear-buffers-keep : (listNumber (listAnswer bytes (clearOf (recordIn bytes) (length buffer))) ≡ 0 → ⊥) →
+      (bufferAfter bytes (clearOpensBuffer (recordIn bytes) buffer) buffer ≡ buffer) × (bufferAfter bytes (clearShortsBuffer (recordIn bytes) buffer) buffer ≡ buffer)
+  unfolding listAnswer clearOf
+  clear-buffers-keep z = (command-buffer-keeps 0x0A7 0x0F z, command-buffer-keeps 0x0A8 0x0F z)
+
+-- ---- Faults
+
+module _ (m : ℕ) (bytes result : List ℕ) where
+  pub record FaultsKept : Type 0 where
+    pub result-stays : faultsResult m bytes result ≡ result
+    pub opens-stay : (old : ℕ) → getD (answerNumbers (faultsAnswer m bytes result)) 1 old ≡ old
+    pub shorts-stay : (old : ℕ) → getD (answerNumbers (faultsAnswer m bytes result)) 2 old ≡ old
+
+  pub faults-keep : (getD (answerNumbers (faultsAnswer m bytes result)) 0 0 ≡ 0 → ⊥) → FaultsKept
+  unfolding faultsAnswer faultsResult answered answerNumbers
+  faults-keep = go (faultsChecked m (length bytes) (length result)) refl
+    where
+      go : (a : Answer) → faultsChecked m (length bytes) (length result) ≡ a →
+          (getD (answerNumbers (answered a (opensAgree m bytes) (shortsAgree m bytes))) 0 0 ≡ 0 → ⊥) → FaultsKept
+      go answers.the-variants.Accepted e z = absurd (z refl)
+      go (answers.the-variants.Refused x) e z = record { result-stays = rw e refl; opens-stay = λ old. rw e refl; shorts-stay = λ old. rw e refl }

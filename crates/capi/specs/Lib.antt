@@ -1,0 +1,3 @@
+pub mod Capi
+pub mod CapiLaws
+pub mod NextLaws
