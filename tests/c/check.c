@@ -19,6 +19,7 @@ void group(const char *name)
 void group_done(const char *note)
 {
     printf("%-24s %9lu checks%s%s\n", group_name, in_group, *note ? ", " : "", note);
+    fflush(stdout);
 }
 
 void context(const char *text)
@@ -26,14 +27,17 @@ void context(const char *text)
     place = text;
 }
 
-void check(int holds, const char *format, ...)
+void check_passed(void)
+{
+    in_group++;
+    in_all++;
+}
+
+void check_failed(const char *format, ...)
 {
     va_list arguments;
 
-    in_group++;
-    in_all++;
-    if (holds)
-        return;
+    check_passed();
     failures++;
     printf("FAILED: %s: %s%s", group_name, place, *place ? ": " : "");
     va_start(arguments, format);
