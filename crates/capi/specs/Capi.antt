@@ -1,22 +1,22 @@
 -- The C interface, include/lp586x.h: records and chips as the caller's bytes, and what a call answers and leaves in the memory that
--- it was lent. bytes are those of a record or of a chip.
+-- it was lent. The sentences are the header's. r is a record, c a chip, x what a call on values gives back.
 -- Assumes nothing.
 use mathlib.Core.Bool.{Bool, cond}
-use mathlib.Core.List.{List, [], _∷_, _++_}
+use mathlib.Core.List.{List, _∷_, _++_}
 use Prim.Native.Nat.{ℕ, _<_, _^_}
 use lib.Dec.{eqb}
 use lib.ListN.{length, getD, take, drop}
 use Rattle.map.specs.declared.refusals.Answer.{Answer}
-use Rattle.map.specs.declared.refusals.Answer.the-variants.{Accepted}
+use Rattle.map.specs.declared.refusals.Answer as answers
 use Rattle.map.specs.declared.refusals.Refusal.the-variants.{Unsound}
-use Rattle.map.specs.Refusals.{refusalNumber, answerNumber}
+use Rattle.map.specs.Refusals.{answerNumber, accepted}
 use Rattle.host.specs.declared.Record.{Record}
 use Rattle.host.specs.declared.Changed.{Changed}
 use Rattle.host.specs.Record.{recordOf}
 use Rattle.update.specs.declared.ListAnswer.{ListAnswer}
 use Rattle.update.specs.declared.ListAnswer.the-variants.{Listed, Short, Refused}
 use Rattle.update.specs.declared.Updated.{Updated}
-use Rattle.update.specs.Update.{listNumber}
+use Rattle.update.specs.Update.{isListed}
 use Rattle.chip.specs.declared.Chip.{Chip}
 use Rattle.chip.specs.Chip.{chipOf}
 
@@ -40,16 +40,64 @@ chipIn bytes = chipOf (getD bytes 0 0) (getD bytes 1 0) (getD bytes 2 0) (imageA
 unfoldable pub chipBytes : Chip → List ℕ
 chipBytes c = c .member ∷ c .bus ∷ c .pins ∷ c .registers
 
--- "LP586X_RECORD_SIZE bytes", "LP586X_CHIP_SIZE"
-abbrev pub recordSized : List ℕ → Bool
+-- "A record is LP586X_RECORD_SIZE bytes in the caller's memory, a chip of the model LP586X_CHIP_SIZE"
+unfoldable pub recordSized : List ℕ → Bool
 recordSized bytes = eqb (length bytes) 1819
 
-abbrev pub chipSized : List ℕ → Bool
+unfoldable pub chipSized : List ℕ → Bool
 chipSized bytes = eqb (length bytes) 911
 
--- ---- Lists
+-- ---- Calls that answer a number alone
 
--- every value of an answer fits 32 bits
+-- "14 unsound record or chip, or its size is wrong"
+unfoldable pub whenSized : Bool → Answer → Answer
+whenSized sized answer = cond sized answer (answers.the-variants.Refused Unsound)
+
+-- "Every call answers 0 where it was accepted, or the number of its refusal"
+unfoldable pub settingNumber : List ℕ → Changed → ℕ
+settingNumber bytes x = answerNumber (whenSized (recordSized bytes) (x .answer))
+
+-- "A refused call changes no byte that was lent to it": the bytes of the record that an accepted call gives back, else the old ones
+unfoldable pub settingBytes : List ℕ → Changed → List ℕ
+settingBytes bytes x = cond (accepted (whenSized (recordSized bytes) (x .answer))) (recordBytes (x .state)) bytes
+
+-- the same of a chip
+unfoldable pub chipNumber : List ℕ → Answer → ℕ
+chipNumber bytes answer = answerNumber (whenSized (chipSized bytes) answer)
+
+unfoldable pub chipAfter : List ℕ → Answer → Chip → List ℕ
+chipAfter bytes answer c = cond (accepted (whenSized (chipSized bytes) answer)) (chipBytes c) bytes
+
+-- ---- Calls that write a list
+
+unfoldable pub listAnswer : List ℕ → Updated → ListAnswer
+listAnswer bytes x = cond (recordSized bytes) (x .answer) (Refused Unsound)
+
+unfoldable pub listBytes : List ℕ → Updated → List ℕ
+listBytes bytes x = cond (isListed (listAnswer bytes x)) (recordBytes (x .state)) bytes
+
+-- the buffer as a call on the record leaves it
+unfoldable pub bufferAfter : List ℕ → List ℕ → List ℕ → List ℕ
+bufferAfter bytes new old = cond (recordSized bytes) new old
+
+-- "0 stores n and t;"
+abbrev pub nAfter : ListAnswer → ℕ → ℕ
+nAfter (Listed n t) old = n
+nAfter (Short needed) old = old
+nAfter (Refused r) old = old
+
+abbrev pub tAfter : ListAnswer → ℕ → ℕ
+tAfter (Listed n t) old = t
+tAfter (Short needed) old = old
+tAfter (Refused r) old = old
+
+-- "10 stores the length needed."
+abbrev pub neededAfter : ListAnswer → ℕ → ℕ
+neededAfter (Listed n t) old = old
+neededAfter (Short needed) old = needed
+neededAfter (Refused r) old = old
+
+-- every value of an answer fits the 32 bits that it is stored in
 abbrev pub Fits : ListAnswer → Type 0
 Fits (Listed n t) = (n < 2 ^ 32) × (t < 2 ^ 32)
 Fits (Short needed) = needed < 2 ^ 32

@@ -8,6 +8,10 @@ ghost use Rattle.capi.specs.Capi.{recordIn, recordBytes, chipIn, chipByt
 use chip::Chip;
 use host::Record;
 
+pub(crate) const RECORD_SIZE: usize = 1819;
+
+pub(crate) const CHIP_SIZE: usize = 911;
+
 // The 908 bytes from a place on.
 fn image_at(bytes: &[u8], from: usize) -> [u8; 908]
     requires { ⌜ from + 908 ≤ length (now bytes) ⌝ }

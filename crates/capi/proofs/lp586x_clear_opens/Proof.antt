@@ -1,36 +1,31 @@
-use Rattle.capi.proofs.Answers.{clear-fits, fits-same}
+-- `capi::lp586x_clear_opens` meets its contract.
+-- Assumes nothing.
+use mathlib.Core.Path.{refl}
 use borrow.Author.Needs.{needs}
+use Rattle.capi.proofs.Settled.{record-sized, record-unsized, fits-same, clear-fits}
+use Rattle.capi.specs.Capi.{listAnswer, bufferAfter}
 use Rattle.capi.proofs.lp586x_clear_opens.Statement.{statement}
 use Rattle.capi.proofs.lp586x_clear_opens.Tie as tie
-use Rattle.capi.proofs.lp586x_clear_opens.Reads as reads
-use Rattle.capi.proofs.lp586x_clear_opens.Lts as lts
-use Rattle.capi.proofs.count.Reads as count-reads
-use Rattle.capi.proofs.records.load.Reads as load-reads
-use Rattle.update.proofs.clear_opens.Reads as clear-opens-reads
 
--- src/lib.rt:204:9
 returns : tie.Need-returns
-returns c = search needs
+unfolding listAnswer bufferAfter
+returns c = rw (record-unsized (c .before .before .before .args .bytes .now) (c .if1 .taken)) (refl, (refl, (refl, refl)))
 
--- src/lib.rt:206:9
 load-requires : tie.Need-load-requires
 load-requires c κs = search needs
 
--- src/lib.rt:207:9
 clear-opens-requires : tie.Need-clear-opens-requires
 clear-opens-requires c κs = search needs
 
--- src/lib.rt:209:5
 count-requires : tie.Need-count-requires
 count-requires c κs = fits-same _ _ (c .before .before .before .before .clear-opens .ensures .0) (clear-fits _ _)
 
--- src/lib.rt:196:1
 same-length : tie.Need-same-length
 same-length c = search needs
 
--- src/lib.rt:196:1
 returns-2 : tie.Need-returns-2
-returns-2 c = search needs
+unfolding listAnswer bufferAfter
+returns-2 c = rw (← (c .before .before .before .before .before .before .before .load .ensures), ← (c .before .before .before .before .before .clear-opens .ensures .0), record-sized (c .before .before .before .before .before .before .before .before .before .before .before .args .bytes .now) (c .before .before .before .before .before .before .before .before .if1 .left)) (c .count .ensures .0, (c .before .before .before .before .before .clear-opens .ensures .1, (c .count .ensures .1 .0, c .count .ensures .1 .1)))
 
 pub lp586x-clear-opens-spec : {M : Type 1} → statement M
 lp586x-clear-opens-spec =

@@ -1,45 +1,40 @@
-use Rattle.capi.proofs.Answers.{update-fits, fits-same}
+-- `capi::lp586x_update` meets its contract.
+-- Assumes nothing.
+use mathlib.Core.Path.{refl}
 use borrow.Author.Needs.{needs}
+use Rattle.capi.proofs.Settled.{record-sized, record-unsized, fits-same, update-fits}
+use Rattle.capi.specs.Capi.{listAnswer, listBytes, bufferAfter}
 use Rattle.capi.proofs.lp586x_update.Statement.{statement}
 use Rattle.capi.proofs.lp586x_update.Tie as tie
-use Rattle.capi.proofs.lp586x_update.Reads as reads
-use Rattle.capi.proofs.lp586x_update.Lts as lts
-use Rattle.capi.proofs.put_needed.Reads as put-needed-reads
-use Rattle.capi.proofs.records.load.Reads as load-reads
-use Rattle.capi.proofs.settle_list.Reads as settle-list-reads
-use Rattle.update.proofs.update.Reads as update-reads
 
--- src/lib.rt:172:9
 returns : tie.Need-returns
-returns c = search needs
+unfolding listAnswer listBytes bufferAfter
+returns c = rw (record-unsized (c .before .before .before .args .bytes .now) (c .if1 .taken)) (refl, (refl, (refl, (refl, (refl, refl)))))
 
--- src/lib.rt:174:9
 load-requires : tie.Need-load-requires
 load-requires c κs = search needs
 
--- src/lib.rt:175:9
 update-requires : tie.Need-update-requires
 update-requires c κs = search needs
 
--- src/lib.rt:177:5
+keep-requires : tie.Need-keep-requires
+keep-requires c κs = search needs
+
 put-needed-requires : tie.Need-put-needed-requires
-put-needed-requires c κs = fits-same _ _ (c .before .before .before .update .ensures .0) (update-fits _ _)
+put-needed-requires c κs = fits-same _ _ (c .before .before .before .before .before .before .before .update .ensures .0) (update-fits _ _)
 
--- src/lib.rt:178:5
-settle-list-requires : tie.Need-settle-list-requires
-settle-list-requires c κs = (search needs, fits-same _ _ (c .before .before .before .before .before .before .before .update .ensures .0) (update-fits _ _))
+count-requires : tie.Need-count-requires
+count-requires c κs = fits-same _ _ (c .before .before .before .before .before .before .before .before .before .before .update .ensures .0) (update-fits _ _)
 
--- src/lib.rt:163:1
 same-length : tie.Need-same-length
 same-length c = search needs
 
--- src/lib.rt:163:1
 same-length-2 : tie.Need-same-length-2
 same-length-2 c = search needs
 
--- src/lib.rt:163:1
 returns-2 : tie.Need-returns-2
-returns-2 c = search needs
+unfolding listAnswer listBytes bufferAfter
+returns-2 c = rw (← (c .before .before .before .before .before .before .before .before .before .before .before .before .before .load .ensures), ← (c .before .before .before .before .before .before .before .before .before .before .before .update .ensures .0), record-sized (c .before .before .before .before .before .before .before .before .before .before .before .before .before .before .before .before .before .before .args .bytes .now) (c .before .before .before .before .before .before .before .before .before .before .before .before .before .before .before .if1 .left)) (c .count .ensures .0, (c .before .before .before .before .before .before .before .keep .ensures, (c .before .before .before .before .before .before .before .before .before .before .before .update .ensures .1, (c .count .ensures .1 .0, (c .count .ensures .1 .1, c .before .before .before .put-needed .ensures)))))
 
 pub lp586x-update-spec : {M : Type 1} → statement M
 lp586x-update-spec =
@@ -48,8 +43,9 @@ lp586x-update-spec =
     returns
     load-requires
     update-requires
+    keep-requires
     put-needed-requires
-    settle-list-requires
+    count-requires
     same-length
     same-length-2
     returns-2)

@@ -1,12 +1,12 @@
+-- `capi::records::image_at` meets its contract.
+-- Assumes nothing.
 use mathlib.Core.Path.{refl}
-use native.Mathlib.Omega.{arith}
 use Prim.Native.Nat.{_-_, _≤_}
+use native.Mathlib.Omega.{arith}
 use lib.ListN.{drop}
 use Rattle.capi.proofs.Copies.{Copied, copied-none, part-more, part-done}
 use Rattle.capi.proofs.records.image_at.Statement.{statement}
 use Rattle.capi.proofs.records.image_at.Tie as tie
-use Rattle.capi.proofs.records.image_at.Reads as reads
-use Rattle.capi.proofs.records.image_at.Lts as lts
 
 abbrev Inv-loop : tie.InvT-loop
 Inv-loop bytes from image₀ i₀ image i = (i ≤ 908) × Copied image₀ (drop from bytes) 0 i image
@@ -14,35 +14,27 @@ Inv-loop bytes from image₀ i₀ image i = (i ≤ 908) × Copied image₀ (drop
 abbrev μ-loop : tie.MeasureT-loop
 μ-loop bytes from image₀ i₀ image i = 908 - i
 
--- src/records.rt:17:5
 loop-holds : tie.Need-loop-holds Inv-loop μ-loop
 loop-holds c = (omega arith, copied-none _ _ _)
 
--- src/records.rt:18:26
 add-image : tie.Need-add-image Inv-loop μ-loop
 add-image c = omega arith
 
--- src/records.rt:18:20
 shared-slice-read-image : tie.Need-shared-slice-read-image Inv-loop μ-loop
 shared-slice-read-image c = omega arith
 
--- src/records.rt:18:9
 array-write-image : tie.Need-array-write-image Inv-loop μ-loop
 array-write-image c = omega (arith, c .before .before .loop .inv .1 .size)
 
--- src/records.rt:19:9
 add-i : tie.Need-add-i Inv-loop μ-loop
 add-i c = omega arith
 
--- src/records.rt:17:5
 loop-less : tie.Need-loop-less Inv-loop μ-loop
 loop-less c = omega arith
 
--- src/records.rt:17:5
 loop-again : tie.Need-loop-again Inv-loop μ-loop
 loop-again c = (omega arith, part-more _ (c .before .before .before .args .bytes .now) _ (c .before .before .before .args .from) (c .before .before .loop .i) (omega arith) (omega arith) (c .before .before .loop .inv .1))
 
--- src/records.rt:11:1
 returns : tie.Need-returns Inv-loop μ-loop
 returns c = part-done _ _ _ (c .before .loop .i) 908 (omega arith) refl (c .before .loop .inv .1)
 

@@ -1,29 +1,22 @@
-use Rattle.capi.proofs.Copies.{record-stored}
+-- `capi::records::store` meets its contract.
+-- Assumes nothing.
 use borrow.Author.Needs.{needs}
+use Rattle.capi.proofs.Copies.{record-stored}
 use Rattle.capi.proofs.records.store.Statement.{statement}
 use Rattle.capi.proofs.records.store.Tie as tie
-use Rattle.capi.proofs.records.store.Reads as reads
-use Rattle.capi.proofs.records.store.Lts as lts
-use Rattle.capi.proofs.records.put_front.Reads as put-front-reads
-use Rattle.capi.proofs.records.put_image.Reads as put-image-reads
 
--- src/records.rt:65:5
 put-front-requires : tie.Need-put-front-requires
 put-front-requires c κs = search needs
 
--- src/records.rt:66:5
 put-image-requires : tie.Need-put-image-requires
 put-image-requires c κs = search needs
 
--- src/records.rt:67:5
 put-image-requires-2 : tie.Need-put-image-requires-2
 put-image-requires-2 c κs = search needs
 
--- src/records.rt:61:1
 same-length : tie.Need-same-length
 same-length c = search needs
 
--- src/records.rt:61:1
 returns : tie.Need-returns
 returns c = record-stored (c .before .before .before .before .before .before .before .before .before .before .before .before .before .before .before .before .before .args .bytes .now) _ _ _ (c .before .before .before .before .before .before .before .before .before .before .before .before .before .before .before .before .before .args .t2) (c .before .before .before .before .before .before .before .before .before .before .before .before .before .before .before .before .before .pre) (search needs) (search needs) (c .before .before .before .before .before .before .before .before .before .before .before .before .before .before .put-front .ensures) (c .before .before .before .before .before .before .before .before .put-image .ensures) (c .before .before .put-image2 .ensures)
 

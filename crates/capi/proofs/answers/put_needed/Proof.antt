@@ -1,33 +1,28 @@
-use Rattle.capi.proofs.Answers.{short-fits}
+-- `capi::answers::put_needed` meets its contract.
+-- Assumes nothing.
 use borrow.Author.Needs.{needs}
-use Rattle.capi.proofs.put_needed.Statement.{statement}
-use Rattle.capi.proofs.put_needed.Tie as tie
-use Rattle.capi.proofs.put_needed.Reads as reads
-use Rattle.capi.proofs.put_needed.Lts as lts
+use Rattle.capi.proofs.Settled.{short-fits, needed-short}
+use Rattle.capi.proofs.answers.put_needed.Statement.{statement}
+use Rattle.capi.proofs.answers.put_needed.Tie as tie
 
 enum-told : tie.Need-enum-told
 enum-told c = search needs
 
--- src/lib.rt:156:37
 enum-known-answer : tie.Need-enum-known-answer
 enum-known-answer c = search needs
 
--- src/lib.rt:157:23
 cast-needed : tie.Need-cast-needed
 cast-needed c = record { fits = short-fits _ _ (c .before .answer .given .1) (c .before .before .before .pre) }
 
 enum-told-2 : tie.Need-enum-told-2
 enum-told-2 c = search needs
 
--- src/lib.rt:151:1
 returns : tie.Need-returns
 returns c = search needs
 
--- src/lib.rt:151:1
 returns-2 : tie.Need-returns-2
-returns-2 c = search needs
+returns-2 c = needed-short _ _ _ (c .before .answer .given .1)
 
--- src/lib.rt:151:1
 returns-3 : tie.Need-returns-3
 returns-3 c = search needs
 

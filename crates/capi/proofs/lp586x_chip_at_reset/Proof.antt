@@ -1,0 +1,25 @@
+-- `capi::lp586x_chip_at_reset` meets its contract.
+-- Assumes nothing.
+use borrow.Author.Needs.{needs}
+use Rattle.capi.proofs.Settled.{chip-wrong}
+use Rattle.capi.proofs.lp586x_chip_at_reset.Statement.{statement}
+use Rattle.capi.proofs.lp586x_chip_at_reset.Tie as tie
+
+returns : tie.Need-returns
+returns c = chip-wrong _ _ _ (c .if1 .taken)
+
+at-reset-requires : tie.Need-at-reset-requires
+at-reset-requires c κs = search needs
+
+settle-chip-requires : tie.Need-settle-chip-requires
+settle-chip-requires c κs = search needs
+
+same-length : tie.Need-same-length
+same-length c = search needs
+
+returns-2 : tie.Need-returns-2
+returns-2 c = rw (← (c .before .before .before .before .before .at-reset .ensures)) (c .before .before .settle-chip .ensures)
+
+pub lp586x-chip-at-reset-spec : {M : Type 1} → statement M
+lp586x-chip-at-reset-spec =
+    tie.close (tie.spec returns at-reset-requires settle-chip-requires same-length returns-2)

@@ -1,0 +1,35 @@
+-- `capi::lp586x_chip_power_lost` meets its contract.
+-- Assumes nothing.
+use borrow.Author.Needs.{needs}
+use Rattle.capi.proofs.Settled.{chip-wrong}
+use Rattle.capi.proofs.lp586x_chip_power_lost.Statement.{statement}
+use Rattle.capi.proofs.lp586x_chip_power_lost.Tie as tie
+
+returns : tie.Need-returns
+returns c = chip-wrong _ _ _ (c .if1 .taken)
+
+load-chip-requires : tie.Need-load-chip-requires
+load-chip-requires c κs = search needs
+
+power-lost-requires : tie.Need-power-lost-requires
+power-lost-requires c κs = search needs
+
+settle-chip-requires : tie.Need-settle-chip-requires
+settle-chip-requires c κs = search needs
+
+same-length : tie.Need-same-length
+same-length c = search needs
+
+returns-2 : tie.Need-returns-2
+returns-2 c = rw (← (c .before .before .before .before .before .load-chip .ensures), ← (c .before .before .before .before .power-lost .ensures)) (c .before .before .settle-chip .ensures)
+
+pub lp586x-chip-power-lost-spec : {M : Type 1} → statement M
+lp586x-chip-power-lost-spec =
+    tie.close
+    (tie.spec
+    returns
+    load-chip-requires
+    power-lost-requires
+    settle-chip-requires
+    same-length
+    returns-2)

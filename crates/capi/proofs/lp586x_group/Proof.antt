@@ -1,0 +1,28 @@
+-- `capi::lp586x_group` meets its contract.
+-- Assumes nothing.
+use borrow.Author.Needs.{needs}
+use Rattle.capi.proofs.Settled.{setting-unsized}
+use Rattle.capi.proofs.lp586x_group.Statement.{statement}
+use Rattle.capi.proofs.lp586x_group.Tie as tie
+
+returns : tie.Need-returns
+returns c = setting-unsized _ _ (c .if1 .taken)
+
+load-requires : tie.Need-load-requires
+load-requires c κs = search needs
+
+group-requires : tie.Need-group-requires
+group-requires c κs = search needs
+
+settle-requires : tie.Need-settle-requires
+settle-requires c κs = search needs
+
+same-length : tie.Need-same-length
+same-length c = search needs
+
+returns-2 : tie.Need-returns-2
+returns-2 c = rw (← (c .before .before .before .before .before .load .ensures), ← (c .before .before .before .before .group .ensures)) (c .before .before .settle .ensures)
+
+pub lp586x-group-spec : {M : Type 1} → statement M
+lp586x-group-spec =
+    tie.close (tie.spec returns load-requires group-requires settle-requires same-length returns-2)
