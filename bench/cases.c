@@ -1,0 +1,182 @@
+#include "cases.h"
+
+#include <stdio.h>
+#include <stdlib.h>
+#include <string.h>
+
+#include "../tests/c/reference.h"
+
+static void must(uint32_t answer)
+{
+    if (answer != 0) {
+        fprintf(stderr, "bench: a call is refused with %u\n", answer);
+        exit(1);
+    }
+}
+
+int has_dot(uint32_t member, uint32_t dot)
+{
+    return reference_dot(member, dot / 18, dot % 18);
+}
+
+/* ---- States */
+
+static void set_lamp(struct situation *s, uint32_t dot, uint32_t level)
+{
+    must(lp586x_lamp(s->record, sizeof s->record, dot / 18, dot % 18, level));
+}
+
+static void light_all(struct situation *s)
+{
+    for (uint32_t dot = 0; dot < LP586X_DOTS; dot++)
+        if (has_dot(s->member, dot))
+            set_lamp(s, dot, 0x2040 + dot);
+}
+
+static void update(struct situation *s)
+{
+    must(lp586x_update(s->record, sizeof s->record, s->list, sizeof s->list, &s->n, &s->t, &s->needed));
+    s->list_size = 4 + 2 * s->n + s->t;
+}
+
+static void as_it_is(struct situation *s)
+{
+    (void)s;
+}
+
+static void change_one_lamp(struct situation *s)
+{
+    set_lamp(s, 19, 0x1234);
+}
+
+static void lose_power(struct situation *s)
+{
+    must(lp586x_power_lost(s->record, sizeof s->record));
+}
+
+/* The list of one lamp, for a chip that is on. */
+static void list_one_lamp(struct situation *s)
+{
+    must(lp586x_chip_feed(s->chip, sizeof s->chip, s->list, s->list_size));
+    change_one_lamp(s);
+    update(s);
+}
+
+/* The list of all settings, for a chip at reset. */
+static void list_everything(struct situation *s)
+{
+    lose_power(s);
+    update(s);
+}
+
+static void fill_scene(struct situation *s)
+{
+    uint32_t dot = 0;
+
+    s->scene[0] = SCENE_ENTRIES;
+    s->scene[1] = 0;
+    for (uint32_t i = 0; i < SCENE_ENTRIES; i++) {
+        do
+            dot = (dot + 61) % LP586X_DOTS;
+        while (!has_dot(s->member, dot));
+        s->scene[2 + i] = (uint8_t)dot;
+        s->scene[2 + SCENE_ENTRIES + 2 * i] = (uint8_t)i;
+        s->scene[3 + SCENE_ENTRIES + 2 * i] = 0x55;
+    }
+}
+
+static void fill_faults(struct situation *s)
+{
+    memset(s->faults, 0, sizeof s->faults);
+    s->faults[0] = 0x03;
+    s->faults[1] = 0x01;
+    s->faults[40] = 0x02;
+}
+
+void prepare_case(const struct bench_case *measured, struct situation *s, uint32_t member)
+{
+    memset(s, 0, sizeof *s);
+    s->member = member;
+    must(lp586x_open(s->record, sizeof s->record, member, member == 3, 0));
+    must(lp586x_chip_at_reset(s->chip, sizeof s->chip, member, member == 3, 0));
+    must(lp586x_register(s->record, sizeof s->record, 0x000, 0x01));
+    light_all(s);
+    update(s);
+    measured->prepare(s);
+}
+
+/* ---- Calls */
+
+static uint32_t call_open(const struct interface *calls, struct situation *s)
+{
+    return calls->open(s->record, sizeof s->record, s->member, 0, 1);
+}
+
+static uint32_t call_register(const struct interface *calls, struct situation *s)
+{
+    return calls->set_register(s->record, sizeof s->record, 0x005, 0x80);
+}
+
+static uint32_t call_lamp(const struct interface *calls, struct situation *s)
+{
+    return calls->lamp(s->record, sizeof s->record, 1, 1, 0x1234);
+}
+
+static uint32_t call_group(const struct interface *calls, struct situation *s)
+{
+    return calls->group(s->record, sizeof s->record, 1, 1, 2);
+}
+
+static uint32_t call_switch(const struct interface *calls, struct situation *s)
+{
+    return calls->set_switch(s->record, sizeof s->record, 1, 1, 0);
+}
+
+static uint32_t call_scene(const struct interface *calls, struct situation *s)
+{
+    return calls->scene(s->record, sizeof s->record, s->scene, sizeof s->scene);
+}
+
+static uint32_t call_power_lost(const struct interface *calls, struct situation *s)
+{
+    return calls->power_lost(s->record, sizeof s->record);
+}
+
+static uint32_t call_update(const struct interface *calls, struct situation *s)
+{
+    return calls->update(s->record, sizeof s->record, s->buffer, sizeof s->buffer, &s->n, &s->t, &s->needed);
+}
+
+static uint32_t call_reset(const struct interface *calls, struct situation *s)
+{
+    return calls->reset(s->record, sizeof s->record, s->buffer, sizeof s->buffer, &s->n, &s->t);
+}
+
+static uint32_t call_feed(const struct interface *calls, struct situation *s)
+{
+    return calls->chip_feed(s->chip, sizeof s->chip, s->list, s->list_size);
+}
+
+static uint32_t call_faults(const struct interface *calls, struct situation *s)
+{
+    return calls->faults(s->member, s->faults, sizeof s->faults, s->result, sizeof s->result, &s->n, &s->t);
+}
+
+const struct bench_case cases[] = {
+    {"Open", as_it_is, call_open},
+    {"Register", as_it_is, call_register},
+    {"Lamp", as_it_is, call_lamp},
+    {"Group", as_it_is, call_group},
+    {"Switch", as_it_is, call_switch},
+    {"Scene, 50 entries", fill_scene, call_scene},
+    {"Update, one lamp", change_one_lamp, call_update},
+    {"Update after a power loss, all lit", lose_power, call_update},
+    {"Update, nothing changed", as_it_is, call_update},
+    {"Reset", as_it_is, call_reset},
+    {"Power lost", as_it_is, call_power_lost},
+    {"Feed, list of one lamp", list_one_lamp, call_feed},
+    {"Feed, list after a power loss", list_everything, call_feed},
+    {"Faults", fill_faults, call_faults},
+};
+
+const int case_count = sizeof cases / sizeof *cases;

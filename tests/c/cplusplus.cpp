@@ -1,0 +1,30 @@
+/* The header from C++: a record is opened, gets a lamp and is updated. */
+#include "lp586x.h"
+
+#include <array>
+#include <cstdint>
+
+#include "check.h"
+#include "groups.h"
+
+void group_cplusplus(void)
+{
+    static const std::array<std::uint8_t, 19> expected = {0x03, 0x00, 0x09, 0x00, 0x03, 0x00, 0x03, 0x00, 0x03, 0x00,
+                                                          0x80, 0x00, 0x01, 0x80, 0x01, 0x58, 0x84, 0x02, 0x40};
+    std::array<std::uint8_t, LP586X_RECORD_SIZE> record;
+    std::array<std::uint8_t, LP586X_UPDATE_SIZE> buffer;
+    std::uint32_t n = 0, t = 0, needed = 0;
+    bool equal = true;
+
+    group("C++");
+    check(lp586x_open(record.data(), record.size(), 0, 0, 0) == 0, "open");
+    check(lp586x_register(record.data(), record.size(), 0x000, 0x01) == 0, "register 000h");
+    check(lp586x_register(record.data(), record.size(), 0x001, 0x58) == 0, "register 001h");
+    check(lp586x_lamp(record.data(), record.size(), 0, 2, 0x40) == 0, "lamp");
+    check(lp586x_update(record.data(), record.size(), buffer.data(), buffer.size(), &n, &t, &needed) == 0, "update");
+    check(n == 3 && t == 9, "n is %u, t is %u", n, t);
+    for (std::size_t i = 0; i < expected.size(); i++)
+        equal = equal && buffer[i] == expected[i];
+    check(equal, "other list bytes");
+    group_done("");
+}

@@ -1,0 +1,31 @@
+/* The tests of the C interface. Arguments: the file of the data sheets' rows, and a seed for the random histories. */
+#include <stdio.h>
+#include <stdlib.h>
+
+#include "check.h"
+#include "groups.h"
+#include "reference.h"
+#include "stage.h"
+
+int main(int count, char **arguments)
+{
+    if (count != 3) {
+        fprintf(stderr, "usage: %s ROWS SEED\n", arguments[0]);
+        return 2;
+    }
+    reference_prepare();
+    stage_prepare();
+    group_rows(arguments[1]);
+    group_examples();
+    group_refusals();
+    group_sizes();
+    group_registers();
+    group_soundness();
+    group_dots();
+    group_heads();
+    group_chip();
+    group_faults();
+    group_cplusplus();
+    group_histories(strtoull(arguments[2], NULL, 0));
+    return checks_result();
+}

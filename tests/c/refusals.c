@@ -1,0 +1,255 @@
+/* Every refusal of every call, in the order of document 01: an input that breaks two conditions gets the earlier number. */
+#include <string.h>
+
+#include "check.h"
+#include "groups.h"
+#include "world.h"
+
+enum { LP5860, LP5861T, LP5864, LP5867, LP5868T };
+
+#define HUGE_NUMBER 0xFFFFFFFFu
+
+static struct outcome expect(uint32_t number, struct call call)
+{
+    struct outcome outcome = both(&call);
+
+    check(outcome.answer == number, "%s: answers %u, not %u", call_text(&call), outcome.answer, number);
+    return outcome;
+}
+
+/* A record or chip that is not sound: the first byte says a member that does not exist. */
+static struct call unsound(struct call call)
+{
+    static uint8_t state[LP586X_RECORD_SIZE];
+
+    memcpy(state, call.state, call.state_size);
+    state[0] = 5;
+    call.state = state;
+    return call;
+}
+
+static struct call sized(struct call call, size_t size)
+{
+    static uint8_t state[1 << 17];
+
+    memset(state, 0, sizeof state);
+    memcpy(state, call.state, call.state_size);
+    call.state = state;
+    call.state_size = size;
+    return call;
+}
+
+static void expect_open(uint32_t number, enum kind kind, const struct world *world, uint32_t member, uint32_t bus, uint32_t pins)
+{
+    struct call call = record_call(world, kind, member, bus, pins);
+
+    if (kind == CHIP_AT_RESET) {
+        call.state = world->chip;
+        call.state_size = sizeof world->chip;
+    }
+    expect(number, call);
+    expect(14, sized(call, call.state_size - 1));
+    expect(14, sized(call, call.state_size + 1));
+    expect(14, sized(call, 0));
+}
+
+/* Open and chip_at_reset: 14 (size), 1, 2, 3. */
+static void opens(enum kind kind)
+{
+    struct world world;
+
+    memset(&world, 0x77, sizeof world);
+    for (uint32_t member = 0; member < 5; member++) {
+        for (uint32_t pins = 0; pins < 4; pins++) {
+            expect_open(0, kind, &world, member, 0, pins);
+            expect_open(pins == 0 ? 0 : 3, kind, &world, member, 1, pins);
+        }
+        expect_open(3, kind, &world, member, 0, 4);
+        expect_open(3, kind, &world, member, 0, HUGE_NUMBER);
+        expect_open(3, kind, &world, member, 0, 256);
+        expect_open(3, kind, &world, member, 1, 256);
+        expect_open(2, kind, &world, member, 2, 0);
+        expect_open(2, kind, &world, member, 256, 4);
+        expect_open(2, kind, &world, member, HUGE_NUMBER, HUGE_NUMBER);
+    }
+    expect_open(1, kind, &world, 5, 0, 0);
+    expect_open(1, kind, &world, 256, 0, 0);
+    expect_open(1, kind, &world, 65536, 2, 4);
+    expect_open(1, kind, &world, HUGE_NUMBER, HUGE_NUMBER, HUGE_NUMBER);
+}
+
+/* Register: 14, 4, 5. */
+static void registers(const struct world *world)
+{
+    expect(14, unsound(record_call(world, REGISTER, 0x064, 256, 0)));
+    expect(14, unsound(record_call(world, REGISTER, 0x000, 1, 0)));
+    expect(4, record_call(world, REGISTER, 0x064, 256, 0));
+    expect(4, record_call(world, REGISTER, 0x0A9, 0xFF, 0));
+    expect(4, record_call(world, REGISTER, 0x38C, 0, 0));
+    expect(4, record_call(world, REGISTER, 0x10000, 0, 0));
+    expect(4, record_call(world, REGISTER, HUGE_NUMBER, HUGE_NUMBER, 0));
+    expect(5, record_call(world, REGISTER, 0x000, 2, 0));
+    expect(5, record_call(world, REGISTER, 0x000, 256, 0));
+    expect(5, record_call(world, REGISTER, 0x005, 256, 0));
+    expect(5, record_call(world, REGISTER, 0x005, HUGE_NUMBER, 0));
+    expect(0, record_call(world, REGISTER, 0x005, 255, 0));
+}
+
+/* Lamp: 14, 6, 7. Group and Switch: 14, 6, 8. */
+static void dots(const struct world *world, enum kind kind, uint32_t top, uint32_t last)
+{
+    expect(14, unsound(record_call(world, kind, 11, 18, HUGE_NUMBER)));
+    expect(14, unsound(record_call(world, kind, 0, 0, 0)));
+    expect(6, record_call(world, kind, 11, 0, HUGE_NUMBER));
+    expect(6, record_call(world, kind, 0, 18, HUGE_NUMBER));
+    expect(6, record_call(world, kind, HUGE_NUMBER, 0, 0));
+    expect(6, record_call(world, kind, 0, HUGE_NUMBER, 0));
+    expect(6, record_call(world, kind, 256, 0, 0));
+    expect(6, record_call(world, kind, 0, 256, 0));
+    /* 18 x line + sink would come out at 0. */
+    expect(6, record_call(world, kind, 0x80000000u, 0, 0));
+    expect(last, record_call(world, kind, 0, 0, top + 1));
+    expect(last, record_call(world, kind, 0, 0, HUGE_NUMBER));
+    expect(last, record_call(world, kind, 0, 0, 0x10000));
+    expect(0, record_call(world, kind, 0, 0, top));
+}
+
+/* n entries of the same dot and level. */
+static size_t fill_scene(uint8_t *scene, uint32_t n, uint32_t dot, uint32_t level)
+{
+    scene[0] = (uint8_t)n;
+    scene[1] = (uint8_t)(n >> 8);
+    for (uint32_t i = 0; i < n; i++) {
+        scene[2 + i] = (uint8_t)dot;
+        scene[2 + n + 2 * i] = (uint8_t)level;
+        scene[3 + n + 2 * i] = (uint8_t)(level >> 8);
+    }
+    return 2 + 3 * (size_t)n;
+}
+
+/* Scene: 14, 9, 6, 7. Data mode 0. */
+static void scenes(const struct world *world)
+{
+    static uint8_t scene[200000];
+    size_t size = fill_scene(scene, 3, 198, 256);
+
+    expect(14, unsound(scene_call(world, scene, 0)));
+    expect(9, scene_call(world, scene, 0));
+    expect(9, scene_call(world, scene, 1));
+    expect(9, scene_call(world, scene, 2));
+    expect(9, scene_call(world, scene, size - 1));
+    expect(9, scene_call(world, scene, size + 1));
+    expect(9, scene_call(world, scene, 4));
+    expect(6, scene_call(world, scene, size));
+    fill_scene(scene, 3, 0, 256);
+    expect(7, scene_call(world, scene, size));
+    scene[4] = 198; /* the last dot, behind a level that is too high */
+    expect(6, scene_call(world, scene, size));
+    fill_scene(scene, 3, 0, 255);
+    scene[2 + 3 + 5] = 1; /* the last level */
+    expect(7, scene_call(world, scene, size));
+    fill_scene(scene, 3, 197, 255);
+    expect(0, scene_call(world, scene, size));
+    expect(0, scene_call(world, scene, fill_scene(scene, 0, 0, 0)));
+    expect(9, scene_call(world, scene, 3));
+    expect(0, scene_call(world, scene, fill_scene(scene, 65535, 1, 254)));
+    expect(9, scene_call(world, scene, 196606));
+    expect(9, scene_call(world, scene, 196608));
+    expect(9, scene_call(world, scene, (2 + 3 * 65535) % 65536));
+    scene[2 + 65534] = 255;
+    expect(6, scene_call(world, scene, 196607));
+}
+
+/* Update, Reset and the Clears: 14, 10. */
+static void lists(const struct world *world)
+{
+    struct outcome outcome;
+
+    for (enum kind kind = UPDATE; kind <= CLEAR_SHORTS; kind++) {
+        expect(14, unsound(list_call_of(world, kind, 0)));
+        expect(14, unsound(list_call_of(world, kind, LP586X_UPDATE_SIZE)));
+        expect(10, list_call_of(world, kind, 0));
+        expect(10, list_call_of(world, kind, 3));
+        expect(10, list_call_of(world, kind, 8));
+        expect(0, list_call_of(world, kind, 65536 + 3));
+    }
+    /* Only Update's refusal carries a value. */
+    outcome = expect(10, list_call_of(world, UPDATE, 13));
+    check(outcome.needed == 14 && outcome.n == OUT_UNTOUCHED && outcome.t == OUT_UNTOUCHED, "needed is %u", outcome.needed);
+    outcome = expect(0, list_call_of(world, UPDATE, 14));
+    check(outcome.needed == OUT_UNTOUCHED && outcome.n == 2 && outcome.t == 6, "n is %u, t is %u", outcome.n, outcome.t);
+}
+
+/* Faults: 1, 13, 10. */
+static void faults(void)
+{
+    static const uint8_t bytes[1 << 17];
+
+    expect(1, faults_call(5, bytes, 66, 197));
+    expect(1, faults_call(256, bytes, 67, 198));
+    expect(1, faults_call(HUGE_NUMBER, bytes, 0, 0));
+    expect(13, faults_call(0, bytes, 66, 197));
+    expect(13, faults_call(0, bytes, 68, 197));
+    expect(13, faults_call(4, bytes, 0, 0));
+    expect(13, faults_call(4, bytes, 67 + 65536, 198));
+    expect(13, faults_call(4, bytes, 67 + 256, 198));
+    expect(10, faults_call(0, bytes, 67, 197));
+    expect(10, faults_call(0, bytes, 67, 0));
+    expect(0, faults_call(0, bytes, 67, 198));
+    expect(0, faults_call(0, bytes, 67, 65536 + 197));
+}
+
+/* Feed: 14, 11. */
+static void feeds(const struct world *world)
+{
+    static const uint8_t good[] = {1, 0, 3, 0, 3, 0, 0x80, 0x00, 0x01, 0x55};
+    static const uint8_t not_t[] = {1, 0, 4, 0, 3, 0, 0x80, 0x00, 0x01, 0x55};
+    static const uint8_t short_length[] = {2, 0, 5, 0, 3, 0, 2, 0, 0x80, 0x00, 0x01, 0x80, 0x00};
+    static const uint8_t zero_length[] = {2, 0, 3, 0, 3, 0, 0, 0, 0x80, 0x00, 0x01};
+    static const uint8_t long_length[] = {2, 0, 6, 0, 3, 0, 4, 0, 0x80, 0x00, 0x01, 0x80, 0x00, 0x00};
+    static const uint8_t wraps[] = {2, 0, 6, 0, 3, 0, 3, 1, 0x80, 0x00, 0x01, 0x80, 0x00, 0x00};
+    static const uint8_t many[] = {0xFF, 0xFF, 0x06, 0x00, 0, 0, 0, 0};
+    static const uint8_t none[] = {0, 0, 0, 0, 0};
+    static const uint8_t no_transactions[] = {0, 0, 3, 0, 0x80, 0x00, 0x01};
+
+    expect(14, unsound(feed_call(world, good, 0)));
+    expect(14, unsound(feed_call(world, good, 9)));
+    for (size_t size = 0; size <= sizeof good; size++)
+        expect(size == 9 ? 0 : 11, feed_call(world, good, size));
+    for (size_t size = 0; size <= sizeof none; size++)
+        expect(size == 4 ? 0 : 11, feed_call(world, none, size));
+    expect(11, feed_call(world, not_t, sizeof not_t));
+    expect(11, feed_call(world, short_length, sizeof short_length));
+    expect(11, feed_call(world, zero_length, sizeof zero_length));
+    expect(11, feed_call(world, long_length, sizeof long_length));
+    expect(11, feed_call(world, wraps, sizeof wraps));
+    expect(11, feed_call(world, many, sizeof many));
+    expect(11, feed_call(world, no_transactions, sizeof no_transactions));
+}
+
+void group_refusals(void)
+{
+    struct world world;
+
+    group("refusals");
+    opens(OPEN);
+    opens(CHIP_AT_RESET);
+    for (uint32_t member = LP5860; member <= LP5868T; member++) {
+        world_open(&world, member, 0, 0);
+        registers(&world);
+        dots(&world, LAMP, 65535, 7);
+        dots(&world, GROUP, 3, 8);
+        dots(&world, SWITCH, 1, 8);
+        expect(14, unsound(record_call(&world, POWER_LOST, 0, 0, 0)));
+        expect(0, record_call(&world, POWER_LOST, 0, 0, 0));
+        feeds(&world);
+    }
+    world_open(&world, LP5860, 0, 0);
+    world_set(&world, REGISTER, 0x000, 0x01, 0);
+    world_set(&world, REGISTER, 0x001, 0x58, 0);
+    dots(&world, LAMP, 255, 7);
+    scenes(&world);
+    lists(&world);
+    faults();
+    group_done("");
+}

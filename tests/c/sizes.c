@@ -1,0 +1,124 @@
+/* Sizes that are wrong for a record or a chip, buffers of every length, and sizes that do not fit 32 bits. */
+#define _DEFAULT_SOURCE
+#include <stdio.h>
+#include <stdlib.h>
+#include <string.h>
+#include <sys/mman.h>
+
+#include "check.h"
+#include "groups.h"
+#include "world.h"
+
+static const size_t sizes[] = {0, 1, 2, 3, 8, 9, 10, 255, 256, 908, 910, 911, 912, 1173, 1174, 1175, 1816, 1817, 1818, 1819,
+                               1820, 1821, 2048, 3638, 65536 + 911, 65536 + 1819, 131072 + 1819};
+
+enum { SIZES = sizeof sizes / sizeof *sizes, LARGEST = 131072 + 1819 };
+
+/* Any state size but the right one is refused with 14 by every call that is lent a record or a chip. */
+static void wrong_state_sizes(const struct world *world)
+{
+    static uint8_t state[LARGEST];
+    static const uint8_t nothing[4];
+
+    for (enum kind kind = OPEN; kind <= FEED; kind++) {
+        size_t right = kind < FAULTS ? LP586X_RECORD_SIZE : LP586X_CHIP_SIZE;
+
+        if (kind == FAULTS)
+            continue;
+        memset(state, 0, sizeof state);
+        memcpy(state, kind < FAULTS ? world->record : world->chip, right);
+        for (int i = 0; i < SIZES; i++) {
+            struct call call = {.kind = kind, .state = state, .state_size = sizes[i], .buffer_size = LP586X_UPDATE_SIZE};
+            struct outcome outcome;
+
+            call.input = nothing;
+            call.input_size = kind == FEED ? 4 : 2;
+            outcome = both(&call);
+            check(outcome.answer == (sizes[i] == right ? 0 : 14), "%s: answers %u", call_text(&call), outcome.answer);
+        }
+    }
+}
+
+/* 10 up to the length needed, 0 from there on; the bytes behind the list stay, which both() has compared. */
+static void buffer_sizes(struct world *world)
+{
+    for (size_t size = 0; size <= 1180; size++) {
+        struct call call = list_call_of(world, UPDATE, size);
+        struct outcome outcome = both(&call);
+
+        check(outcome.answer == (size < 19 ? 10 : 0), "an update of 19 bytes: answers %u at %zu", outcome.answer, size);
+        check(size >= 19 || outcome.needed == 19, "needed is %u", outcome.needed);
+    }
+    for (enum kind kind = RESET; kind <= CLEAR_SHORTS; kind++) {
+        for (size_t size = 0; size <= 64; size++) {
+            struct call call = list_call_of(world, kind, size);
+
+            check(both(&call).answer == (size < 9 ? 10 : 0), "%s", call_text(&call));
+        }
+    }
+}
+
+static void result_sizes(void)
+{
+    static const uint8_t bytes[LP586X_FAULT_BYTES + 70];
+
+    for (size_t size = 0; size <= 300; size++) {
+        struct call call = faults_call(3, bytes, LP586X_FAULT_BYTES, size);
+
+        check(both(&call).answer == (size < 198 ? 10 : 0), "%s", call_text(&call));
+    }
+    for (size_t size = 0; size <= sizeof bytes; size++) {
+        struct call call = faults_call(3, bytes, size, 198);
+
+        check(both(&call).answer == (size != 67 ? 13 : 0), "%s", call_text(&call));
+    }
+}
+
+/* More than 4 GiB of address space, of which the calls touch a page or two. */
+static void sizes_beyond_32_bits(const struct world *world)
+{
+    const size_t four_gib = (size_t)1 << 32;
+    uint8_t *memory = mmap(NULL, four_gib + 4096, PROT_READ | PROT_WRITE, MAP_PRIVATE | MAP_ANONYMOUS | MAP_NORESERVE, -1, 0);
+    uint8_t record[LP586X_RECORD_SIZE], chip[LP586X_CHIP_SIZE], small[LP586X_DOTS] = {0};
+    uint32_t n, t, needed;
+
+    if (memory == MAP_FAILED) {
+        perror("mmap");
+        exit(1);
+    }
+    memcpy(record, world->record, sizeof record);
+    memcpy(chip, world->chip, sizeof chip);
+    check(lp586x_reset(record, sizeof record, memory, four_gib, &n, &t) == 0, "reset, 2^32 bytes of buffer");
+    check(lp586x_clear_opens(record, sizeof record, memory, four_gib + 8, &n, &t) == 0, "clear_opens, 2^32 + 8");
+    check(lp586x_clear_shorts(record, sizeof record, memory, four_gib + 8, &n, &t) == 0, "clear_shorts, 2^32 + 8");
+    check(lp586x_update(record, sizeof record, memory, four_gib, &n, &t, &needed) == 0, "update, 2^32");
+    check(lp586x_faults(0, small, 67, memory, four_gib + 197, &n, &t) == 0, "faults, a result of 2^32 + 197");
+
+    memset(memory, 0, 4096);
+    check(lp586x_faults(0, memory, four_gib + 67, small, 198, &n, &t) == 13, "faults, 2^32 + 67 bytes");
+    check(lp586x_scene(record, sizeof record, memory, four_gib + 2) == 9, "scene, 2^32 + 2");
+    check(lp586x_chip_feed(chip, sizeof chip, memory, four_gib + 4) == 11, "chip_feed, 2^32 + 4");
+    memcpy(memory, world->record, sizeof world->record);
+    check(lp586x_power_lost(memory, four_gib + LP586X_RECORD_SIZE) == 14, "power_lost, a record of 2^32 + 1819");
+    check(lp586x_open(memory, four_gib + LP586X_RECORD_SIZE, 0, 0, 0) == 14, "open, a record of 2^32 + 1819");
+    memcpy(memory, world->chip, sizeof world->chip);
+    check(lp586x_chip_feed(memory, four_gib + LP586X_CHIP_SIZE, small, 4) == 14, "chip_feed, a chip of 2^32 + 911");
+    check(lp586x_chip_power_lost(memory, four_gib + LP586X_CHIP_SIZE) == 14, "chip_power_lost, a chip of 2^32 + 911");
+    munmap(memory, four_gib + 4096);
+}
+
+void group_sizes(void)
+{
+    struct world world;
+
+    group("sizes");
+    world_open(&world, 0, 0, 0);
+    world_set(&world, REGISTER, 0x000, 0x01, 0);
+    world_set(&world, REGISTER, 0x001, 0x58, 0);
+    world_set(&world, LAMP, 0, 2, 0x40);
+    wrong_state_sizes(&world);
+    buffer_sizes(&world);
+    result_sizes();
+    sizes_beyond_32_bits(&world);
+    group_done("");
+}

@@ -1,0 +1,61 @@
+/* One call, made by the library and by the reference on equal memory.
+ *
+ * Each range of bytes that a call is lent stands alone: canaries in front of it, and behind it either canaries or the end of the
+ * memory that the program may touch. After the call both sides must agree in the answer and in every lent byte; a refused call
+ * must have changed no byte, but for the length needed that refusal 10 of Update stores; no canary may have changed.
+ */
+#ifndef STAGE_H
+#define STAGE_H
+
+#include <stddef.h>
+#include <stdint.h>
+
+enum kind {
+    OPEN,
+    REGISTER,
+    LAMP,
+    GROUP,
+    SWITCH,
+    SCENE,
+    POWER_LOST,
+    UPDATE,
+    RESET,
+    CLEAR_OPENS,
+    CLEAR_SHORTS,
+    FAULTS,
+    CHIP_AT_RESET,
+    CHIP_POWER_LOST,
+    FEED
+};
+
+struct call {
+    enum kind kind;
+    uint32_t numbers[3];  /* those of the call, in the header's order */
+    const uint8_t *state; /* the record or the chip that is lent, as it stands before */
+    size_t state_size;
+    const uint8_t *input; /* scene, list or fault bytes */
+    size_t input_size;
+    size_t buffer_size; /* buffer or result */
+};
+
+/* What the library answered. The pointers hold until the next call. */
+struct outcome {
+    uint32_t answer;
+    uint32_t n, t, needed; /* FAULTS: opens_agree, shorts_agree; OUT_UNTOUCHED where nothing was stored */
+    const uint8_t *state;
+    const uint8_t *buffer;
+};
+
+#define OUT_UNTOUCHED 0xA5A5A5A5u
+
+void stage_prepare(void);
+
+struct outcome both(const struct call *call);
+
+/* How many calls were made, each counted once for the two sides. */
+unsigned long calls_made(void);
+
+/* A call in words, for messages. */
+const char *call_text(const struct call *call);
+
+#endif

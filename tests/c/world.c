@@ -1,0 +1,113 @@
+#include "world.h"
+
+#include <string.h>
+
+#include "check.h"
+
+struct call record_call(const struct world *world, enum kind kind, uint32_t first, uint32_t second, uint32_t third)
+{
+    return (struct call){
+        .kind = kind, .numbers = {first, second, third}, .state = world->record, .state_size = sizeof world->record};
+}
+
+struct call list_call_of(const struct world *world, enum kind kind, size_t buffer_size)
+{
+    struct call call = record_call(world, kind, 0, 0, 0);
+
+    call.buffer_size = buffer_size;
+    return call;
+}
+
+struct call scene_call(const struct world *world, const uint8_t *scene, size_t scene_size)
+{
+    struct call call = record_call(world, SCENE, 0, 0, 0);
+
+    call.input = scene;
+    call.input_size = scene_size;
+    return call;
+}
+
+static struct call chip_call(const struct world *world, enum kind kind)
+{
+    return (struct call){.kind = kind, .state = world->chip, .state_size = sizeof world->chip};
+}
+
+struct call feed_call(const struct world *world, const uint8_t *list, size_t list_size)
+{
+    struct call call = chip_call(world, FEED);
+
+    call.input = list;
+    call.input_size = list_size;
+    return call;
+}
+
+struct call faults_call(uint32_t member, const uint8_t *bytes, size_t bytes_size, size_t result_size)
+{
+    return (struct call){
+        .kind = FAULTS, .numbers = {member}, .input = bytes, .input_size = bytes_size, .buffer_size = result_size};
+}
+
+static struct outcome keep_record(struct world *world, struct call call)
+{
+    struct outcome outcome = both(&call);
+
+    memcpy(world->record, outcome.state, sizeof world->record);
+    return outcome;
+}
+
+static uint32_t keep_chip(struct world *world, struct call call)
+{
+    struct outcome outcome = both(&call);
+
+    memcpy(world->chip, outcome.state, sizeof world->chip);
+    return outcome.answer;
+}
+
+void world_open(struct world *world, uint32_t member, uint32_t bus, uint32_t pins)
+{
+    struct call chip = chip_call(world, CHIP_AT_RESET);
+
+    memset(world, 0xEE, sizeof *world);
+    check(world_set(world, OPEN, member, bus, pins) == 0, "open (%u, %u, %u) is refused", member, bus, pins);
+    memcpy(chip.numbers, (uint32_t[3]){member, bus, pins}, sizeof chip.numbers);
+    check(keep_chip(world, chip) == 0, "chip_at_reset (%u, %u, %u) is refused", member, bus, pins);
+}
+
+uint32_t world_set(struct world *world, enum kind kind, uint32_t first, uint32_t second, uint32_t third)
+{
+    return keep_record(world, record_call(world, kind, first, second, third)).answer;
+}
+
+uint32_t world_scene(struct world *world, const uint8_t *scene, size_t scene_size)
+{
+    return keep_record(world, scene_call(world, scene, scene_size)).answer;
+}
+
+struct outcome world_list(struct world *world, enum kind kind, size_t buffer_size)
+{
+    return keep_record(world, list_call_of(world, kind, buffer_size));
+}
+
+uint32_t world_feed(struct world *world, const uint8_t *list, size_t list_size)
+{
+    return keep_chip(world, feed_call(world, list, list_size));
+}
+
+uint32_t world_chip_power_lost(struct world *world)
+{
+    return keep_chip(world, chip_call(world, CHIP_POWER_LOST));
+}
+
+struct outcome world_sync(struct world *world)
+{
+    static uint8_t list[LP586X_UPDATE_SIZE];
+    struct outcome update = world_list(world, UPDATE, sizeof list);
+
+    check(update.answer == 0, "an update with a buffer of %zu bytes is refused with %u", sizeof list, update.answer);
+    if (update.answer != 0)
+        return update;
+    memcpy(list, update.buffer, sizeof list);
+    update.buffer = list;
+    check(world_feed(world, list, 4 + 2 * update.n + update.t) == 0, "the chip refuses an update's list");
+    return update;
+}

@@ -1,0 +1,38 @@
+/* A record and the chip that it stands for. Each call is made by the library and by the reference; what an accepted call leaves is kept. */
+#ifndef WORLD_H
+#define WORLD_H
+
+#include "lp586x.h"
+#include "stage.h"
+
+struct world {
+    uint8_t record[LP586X_RECORD_SIZE];
+    uint8_t chip[LP586X_CHIP_SIZE];
+};
+
+enum { SETTINGS = 3, IMAGE = 3 + LP586X_REGISTERS, CHIP_REGISTERS = 3 };
+
+/* Opens a record and gives the chip power; both must be accepted. */
+void world_open(struct world *world, uint32_t member, uint32_t bus, uint32_t pins);
+
+/* OPEN to SWITCH and POWER_LOST, with the call's numbers. */
+uint32_t world_set(struct world *world, enum kind kind, uint32_t first, uint32_t second, uint32_t third);
+uint32_t world_scene(struct world *world, const uint8_t *scene, size_t scene_size);
+
+/* UPDATE to CLEAR_SHORTS. */
+struct outcome world_list(struct world *world, enum kind kind, size_t buffer_size);
+
+uint32_t world_feed(struct world *world, const uint8_t *list, size_t list_size);
+uint32_t world_chip_power_lost(struct world *world);
+
+/* An update that must be accepted and is fed to the chip. */
+struct outcome world_sync(struct world *world);
+
+/* The calls of a struct call on the record or the chip as they stand. */
+struct call record_call(const struct world *world, enum kind kind, uint32_t first, uint32_t second, uint32_t third);
+struct call list_call_of(const struct world *world, enum kind kind, size_t buffer_size);
+struct call scene_call(const struct world *world, const uint8_t *scene, size_t scene_size);
+struct call feed_call(const struct world *world, const uint8_t *list, size_t list_size);
+struct call faults_call(uint32_t member, const uint8_t *bytes, size_t bytes_size, size_t result_size);
+
+#endif
