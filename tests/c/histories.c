@@ -1,7 +1,7 @@
 /* Random histories. In each a record is opened and gets several hundred calls, with wrong arguments, short buffers and scenes with
- * duplicates among them; every accepted list is fed to its chip. A ledger is kept from the calls alone: the settings must equal it after every call,
- * and the chip's writable registers after every update that has the chip on. Beside the history, and without touching it, calls
- * are made on damaged records and chips, and a second chip is fed random and damaged lists.
+ * duplicates among them; every accepted list is fed to its chip. A ledger is kept from the calls alone: the settings must equal it
+ * after every call, and the chip's writable registers after every update that has the chip on. Beside the history, and without
+ * touching it, calls are made on damaged records and chips, and a second chip is fed random and damaged lists.
  */
 #include <inttypes.h>
 #include <stdio.h>
