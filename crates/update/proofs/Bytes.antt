@@ -1,7 +1,7 @@
 -- Bytes stored one after the other: copies, sizes and transactions behind one another.
 -- Assumes nothing.
 use mathlib.Core.Path.{_≡_, refl, sym, ap, _∙_}
-use mathlib.Core.List.{List, [], _∷_, _++_, map, append-assoc, append-nil}
+use mathlib.Core.List.{List, [], _∷_, _++_, map, map-append, append-assoc, append-nil}
 use Prim.Native.Nat.{ℕ, suc, _+_, _-_, _*_, _≤_, _<_}
 use native.Mathlib.Nat.{zero-add, add-zero, add-suc, suc-add}
 use native.Mathlib.Numerals.{add-one}
@@ -113,37 +113,41 @@ pub transaction-length : (bus pins : ℕ) (settings : List ℕ) (w : Write) → 
 unfolding transactionOf
 transaction-length bus pins settings w h = omega (arith, data-length settings (w .start) (w .len) h)
 
-joined-append : (xs : List (List ℕ)) (y : List ℕ) → joined (xs ++ (y ∷ [])) ≡ joined xs ++ y
-joined-append [] y = append-nil y
-joined-append (x ∷ xs) y = ap (λ (l : List ℕ). x ++ l) (joined-append xs y) ∙ sym (append-assoc x (joined xs) y)
+joined-append : (xs ys : List (List ℕ)) → joined (xs ++ ys) ≡ joined xs ++ joined ys
+joined-append [] ys = refl
+joined-append (x ∷ xs) ys = ap (λ (l : List ℕ). x ++ l) (joined-append xs ys) ∙ sym (append-assoc x (joined xs) (joined ys))
 
-map-append : {A B : Type 0} (f : A → B) (xs : List A) (y : A) → map f (xs ++ (y ∷ [])) ≡ map f xs ++ (f y ∷ [])
-map-append f [] y = refl
-map-append f (x ∷ xs) y = ap (λ l. f x ∷ l) (map-append f xs y)
+-- the bytes of writes, one list behind the other
+pub bytes-append : (bus pins : ℕ) (settings : List ℕ) (ws vs : List Write) →
+    transactionBytes bus pins settings (ws ++ vs) ≡ transactionBytes bus pins settings ws ++ transactionBytes bus pins settings vs
+bytes-append bus pins settings ws vs =
+    ap joined
+    (ap (map (transactionOf bus pins)) (map-append (dataOf settings) ws vs) ∙ map-append (transactionOf bus pins) (map (dataOf settings) ws) (map (dataOf settings) vs))
+    ∙ joined-append (map (transactionOf bus pins) (map (dataOf settings) ws)) (map (transactionOf bus pins) (map (dataOf settings) vs))
 
-pub bytes-append : (bus pins : ℕ) (settings : List ℕ) (ws : List Write) (w : Write) →
+pub bytes-more : (bus pins : ℕ) (settings : List ℕ) (ws : List Write) (w : Write) →
     transactionBytes bus pins settings (ws ++ (w ∷ [])) ≡ transactionBytes bus pins settings ws ++ transactionOf bus pins (dataOf settings w)
-bytes-append bus pins settings ws w =
-    ap (λ (l : List Burst). joined (map (transactionOf bus pins) l)) (map-append (dataOf settings) ws w)
-    ∙ ap joined (map-append (transactionOf bus pins) (map (dataOf settings) ws) (dataOf settings w))
-    ∙ joined-append (map (transactionOf bus pins) (map (dataOf settings) ws)) (transactionOf bus pins (dataOf settings w))
+bytes-more bus pins settings ws w =
+    bytes-append bus pins settings ws (w ∷ [])
+    ∙ ap (λ (l : List ℕ). transactionBytes bus pins settings ws ++ l) (append-nil (transactionOf bus pins (dataOf settings w)))
 
-sizes-append : (ks : List ℕ) (k : ℕ) → sizesBytes (ks ++ (k ∷ [])) ≡ sizesBytes ks ++ sizeBytes k
-sizes-append [] k = refl
-sizes-append (x ∷ ks) k = ap (λ (l : List ℕ). sizeBytes x ++ l) (sizes-append ks k)
+sizes-append : (ks js : List ℕ) → sizesBytes (ks ++ js) ≡ sizesBytes ks ++ sizesBytes js
+sizes-append [] js = refl
+sizes-append (k ∷ ks) js = ap (λ (l : List ℕ). sizeBytes k ++ l) (sizes-append ks js)
 
-pub lengths-append : (ws : List Write) (w : Write) → sizesBytes (transactionLengths (ws ++ (w ∷ []))) ≡ sizesBytes (transactionLengths ws) ++ sizeBytes (2 + w .len)
-lengths-append ws w =
-    ap sizesBytes (map-append (λ (x : Write). 2 + x .len) ws w) ∙ sizes-append (transactionLengths ws) (2 + w .len)
+-- and the sizes of their transactions
+pub lengths-append : (ws vs : List Write) → sizesBytes (transactionLengths (ws ++ vs)) ≡ sizesBytes (transactionLengths ws) ++ sizesBytes (transactionLengths vs)
+lengths-append ws vs =
+    ap sizesBytes (map-append (λ (w : Write). 2 + w .len) ws vs) ∙ sizes-append (transactionLengths ws) (transactionLengths vs)
 
 pub sizes-length : (ws : List Write) → length (sizesBytes (transactionLengths ws)) ≡ 2 * length ws
 sizes-length [] = refl
 sizes-length (w ∷ ws) = omega (arith, sizes-length ws)
 
-pub stores-append : (settings : List ℕ) (ws : List Write) (w : Write) (image : List ℕ) →
-    storeWrites settings (ws ++ (w ∷ [])) image ≡ sets (storeWrites settings ws image) (w .start) (dataOf settings w .bytes)
-stores-append settings ws w image =
-    ap (λ (l : List Burst). storeAll l image) (map-append (dataOf settings) ws w) ∙ store-append (map (dataOf settings) ws) (dataOf settings w ∷ []) image
+pub stores-append : (settings : List ℕ) (ws vs : List Write) (image : List ℕ) →
+    storeWrites settings (ws ++ vs) image ≡ storeWrites settings vs (storeWrites settings ws image)
+stores-append settings ws vs image =
+    ap (λ (l : List Burst). storeAll l image) (map-append (dataOf settings) ws vs) ∙ store-append (map (dataOf settings) ws) (map (dataOf settings) vs) image
 
 -- ---- put_first
 

@@ -13,7 +13,7 @@ use Rattle.plan.specs.Update.{dataOf}
 use Rattle.plan.specs.RunLaws.{one}
 use Rattle.update.specs.Runs.{marksOf, Pair, FirstDiffering, RunEnd, transactionLengths, transactionBytes, storeWrites}
 use Rattle.update.proofs.Turns.{Going, going-start, going-more, going-taken, going-cost}
-use Rattle.update.proofs.Bytes.{sets-append, lengths-append, sizes-length, bytes-append, transaction-length, stores-append, part-written}
+use Rattle.update.proofs.Bytes.{sets-append, lengths-append, sizes-length, bytes-more, transaction-length, stores-append, part-written}
 
 module _ (m : ℕ) (settings image : List ℕ) where
   -- the length of the next write's transaction, as the code has it
@@ -45,7 +45,7 @@ module _ (m : ℕ) (settings image : List ℕ) where
         ∙ ap (λ (k : ℕ). sets (sets old at (sizesBytes (transactionLengths (g .done)))) k (sizeBytes (end - start + 2))) place
         ∙ sets-append (sizesBytes (transactionLengths (g .done))) (sizeBytes (end - start + 2)) old at
         ∙ ap (λ (k : ℕ). sets old at (sizesBytes (transactionLengths (g .done)) ++ sizeBytes k)) (length-of start end)
-        ∙ ap (λ (l : List ℕ). sets old at l) (sym (lengths-append (g .done) (record { start = start; len = end - start })));
+        ∙ ap (λ (l : List ℕ). sets old at l) (sym (lengths-append (g .done) (one start end)));
   }
     where
       place : at + 2 * i ≡ at + length (sizesBytes (transactionLengths (g .done)))
@@ -109,7 +109,7 @@ module _ (m : ℕ) (settings image : List ℕ) where
           omega (
             arith,
             g .long,
-            ap length (bytes-append bus pins settings (g .done) (record { start = start; len = end - start })),
+            ap length (bytes-more bus pins settings (g .done) (record { start = start; len = end - start })),
             length-append (transactionBytes bus pins settings (g .done)) (transactionOf bus pins (dataOf settings (record { start = start; len = end - start }))),
             transaction-length bus pins settings (record { start = start; len = end - start }) (omega (arith, r .most, pair .settings-size)),
             cost-append 2 (g .done) (one start end),
@@ -119,11 +119,11 @@ module _ (m : ℕ) (settings image : List ℕ) where
           ∙ ap (λ (l : List ℕ). sets l at tx) (g .written)
           ∙ ap (λ (k : ℕ). sets (sets old place (transactionBytes bus pins settings (g .done))) k tx) (omega (arith, g .reached, g .long))
           ∙ sets-append (transactionBytes bus pins settings (g .done)) tx old place
-          ∙ ap (λ (l : List ℕ). sets old place l) (sym (bytes-append bus pins settings (g .done) (record { start = start; len = end - start })));
+          ∙ ap (λ (l : List ℕ). sets old place l) (sym (bytes-more bus pins settings (g .done) (record { start = start; len = end - start })));
       stored =
           ek
           ∙ ap (λ (l : List ℕ). sets l start (take (end - start) (drop start settings))) (g .stored)
-          ∙ sym (stores-append settings (g .done) (record { start = start; len = end - start }) first);
+          ∙ sym (stores-append settings (g .done) (one start end) first);
     }
       where
         tx : List ℕ

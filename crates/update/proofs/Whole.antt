@@ -20,7 +20,6 @@ use Rattle.plan.specs.Plan.{Write, cost, plan}
 use Rattle.plan.specs.Writes.{Good, AllGood, cost-append}
 use Rattle.plan.specs.Update.{valueAt, onBy, dataOf, enable, updateFor, storeAll, Layout}
 use Rattle.plan.specs.UpdateLaws.{plan-ok, data-length}
-use Rattle.plan.specs.Follow.{store-append}
 use Rattle.host.specs.declared.Record.{Record}
 use Rattle.host.specs.Record.{soundOf}
 use Rattle.host.specs.SoundLaws.{Sound, sound-is}
@@ -28,7 +27,7 @@ use Rattle.update.specs.declared.ListAnswer.the-variants.{Listed, Short,
 use Rattle.update.specs.Update.{listSize, over, writesOf, updateAnswer, updateImage, updateBuffer}
 use Rattle.update.specs.UpdateLaws.{enable-byte, differ-writable, image-layout}
 use Rattle.update.specs.Runs.{marksOf, Pair, Counted, transactionLengths, transactionBytes, storeWrites, firstRun, firstCount, runCount, runsOf, ListSizes, pendingRuns, listBytes}
-use Rattle.update.proofs.Bytes.{sets-append, sizes-length, transaction-length}
+use Rattle.update.proofs.Bytes.{sets-append, sizes-length, transaction-length, bytes-append, lengths-append, stores-append}
 
 -- ---- first_count and list_sizes
 
@@ -112,10 +111,6 @@ enabling bus pins settings size (suc k) h =
       transaction-length bus pins settings (record { start = 0; len = 1 }) (omega arith),
     )
 
-map-join : {A B : Type 0} (f : A → B) (xs ys : List A) → map f (xs ++ ys) ≡ map f xs ++ map f ys
-map-join f [] ys = refl
-map-join f (x ∷ xs) ys = ap (λ l. f x ∷ l) (map-join f xs ys)
-
 pub stored-length : (bs : List Burst) (image : List ℕ) → length (storeAll bs image) ≡ length image
 stored-length [] image = refl
 stored-length (b ∷ bs) image = stored-length bs (sets image (b .start) (b .bytes)) ∙ length-sets image (b .start) (b .bytes)
@@ -153,8 +148,7 @@ module _ (m : ℕ) (settings image : List ℕ) (first writes bytes : ℕ) (z : L
   list-taken i₀ i₁ i₂ e₁ e₂ =
       e₂
       ∙ ap₂ (λ (k : ℕ) (i : List ℕ). storeWrites settings (take k (plan (marksOf m settings image) 908)) i) (z .writes-are) e₁
-      ∙ sym (store-append (map (dataOf settings) (firstRun first)) (map (dataOf settings) (runsOf m settings image)) i₀)
-      ∙ ap (λ (bs : List Burst). storeAll bs i₀) (sym (map-join (dataOf settings) (firstRun first) (runsOf m settings image)))
+      ∙ sym (stores-append settings (firstRun first) (runsOf m settings image) i₀)
 
 -- ---- the list by document 01
 
@@ -228,20 +222,6 @@ sum-lengths : (ws : List Write) → sum (transactionLengths ws) ≡ cost ws
 sum-lengths [] = refl
 sum-lengths (w ∷ ws) = omega (arith, sum-lengths ws)
 
-sizes-join : (xs ys : List ℕ) → sizesBytes (xs ++ ys) ≡ sizesBytes xs ++ sizesBytes ys
-sizes-join [] ys = refl
-sizes-join (x ∷ xs) ys = ap (λ (l : List ℕ). sizeBytes x ++ l) (sizes-join xs ys)
-
-joined-join : (xs ys : List (List ℕ)) → joined (xs ++ ys) ≡ joined xs ++ joined ys
-joined-join [] ys = refl
-joined-join (x ∷ xs) ys = ap (λ (l : List ℕ). x ++ l) (joined-join xs ys) ∙ sym (append-assoc x (joined xs) (joined ys))
-
-bytes-join : (bus pins : ℕ) (settings : List ℕ) (xs ys : List Write) →
-    transactionBytes bus pins settings (xs ++ ys) ≡ transactionBytes bus pins settings xs ++ transactionBytes bus pins settings ys
-bytes-join bus pins settings xs ys =
-    ap joined (ap (map (transactionOf bus pins)) (map-join (dataOf settings) xs ys) ∙ map-join (transactionOf bus pins) (map (dataOf settings) xs) (map (dataOf settings) ys))
-    ∙ joined-join (map (transactionOf bus pins) (map (dataOf settings) xs)) (map (transactionOf bus pins) (map (dataOf settings) ys))
-
 -- the bytes of the list of some writes
 encode-writes : (m bus pins : ℕ) (settings : List ℕ) → Layout (writableOf m) 908 settings → (ws : List Write) → AllGood (writableOf m) 908 ws →
     encode bus pins (map (dataOf settings) ws) ≡ sizeBytes (length ws) ++ (sizeBytes (cost ws) ++ (sizesBytes (transactionLengths ws) ++ transactionBytes bus pins settings ws))
@@ -266,8 +246,8 @@ module _ (m : ℕ) (settings image : List ℕ) (first writes bytes : ℕ) (z : L
       encode-writes m bus pins settings layout (pendingRuns m settings image first) (pending-good m settings layout image first)
       ∙ ap₂ (λ (n t : ℕ). sizeBytes n ++ (sizeBytes t ++ (sizesBytes (transactionLengths (pendingRuns m settings image first)) ++ transactionBytes bus pins settings (pendingRuns m settings image first)))) pending-count pending-cost
       ∙ ap₂ (λ (x y : List ℕ). sizeBytes (first + runCount m settings image) ++ (sizeBytes (3 * first + bytes) ++ (x ++ y)))
-      (ap sizesBytes (map-join (λ (w : Write). 2 + w .len) (firstRun first) (runsOf m settings image)) ∙ sizes-join (transactionLengths (firstRun first)) (transactionLengths (runsOf m settings image)))
-      (bytes-join bus pins settings (firstRun first) (runsOf m settings image))
+      (lengths-append (firstRun first) (runsOf m settings image))
+      (bytes-append bus pins settings (firstRun first) (runsOf m settings image))
       ∙ ap (λ (x : List ℕ). sizeBytes (first + runCount m settings image) ++ (sizeBytes (3 * first + bytes) ++ x))
       (append-assoc (sizesBytes (transactionLengths (firstRun first))) (sizesBytes (transactionLengths (runsOf m settings image))) (transactionBytes bus pins settings (firstRun first) ++ transactionBytes bus pins settings (runsOf m settings image)))
 

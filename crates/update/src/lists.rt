@@ -12,7 +12,14 @@ ghost use Rattle.update.specs.Update.{updateAnswer, updateImage, updateB
 ghost use Rattle.update.specs.Runs.{marksOf, Pair, Tables, ListSizes, firstCount, firstRun, pendingRuns, listBytes, transactionLengths, transactionBytes, storeWrites};
 use crate::ListAnswer;
 use crate::runs;
+use crate::runs::Matrix;
 use map::Refusal;
+
+// How a chip is wired: its bus, and its address pins.
+pub(crate) struct Wiring {
+    pub bus: u8,
+    pub pins: u8,
+}
 
 // The data bytes of a write go behind the two head bytes of its part of the buffer,
 fn put_data(part: &mut [u8], settings: &[u8], start: usize, len: usize)
@@ -41,17 +48,16 @@ fn take_data(image: &mut [u8; 908], settings: &[u8], start: usize, len: usize)
 // One transaction, into the part of the buffer that starts where it belongs.
 pub(crate) fn put_transaction(
     part: &mut [u8],
-    bus: u8,
-    pins: u8,
+    wiring: Wiring,
     settings: &[u8],
     start: usize,
     len: usize,
 )
     requires { ⌜ (2 + len ≤ length (now part)) × (start + len ≤ length (now settings)) ⌝ }
-    ensures { λ _. ⌜ now (part .exit) ≡ sets (now (part .entry)) 0 (transactionOf bus pins (dataOf (now (settings .entry)) (record { start = start; len = len }))) ⌝ }
+    ensures { λ _. ⌜ now (part .exit) ≡ sets (now (part .entry)) 0 (transactionOf (wiring .bus) (wiring .pins) (dataOf (now (settings .entry)) (record { start = start; len = len }))) ⌝ }
 {
-    part[0] = burst::head_first(bus, pins, start);
-    part[1] = burst::head_second(bus, start);
+    part[0] = burst::head_first(wiring.bus, wiring.pins, start);
+    part[1] = burst::head_second(wiring.bus, start);
     put_data(part, settings, start, len);
 }
 
@@ -72,21 +78,19 @@ fn put_lengths<'a>(
     buffer: &mut [u8],
     at: usize,
     kinds: &[u8],
-    member: usize,
-    lines: usize,
-    columns: u32,
+    matrix: Matrix,
     settings: &'a [u8],
     image: &'a [u8],
     writes: usize,
 )
-    requires { ⌜ Tables (now kinds) member lines columns × Pair member (now settings) (now image) × (writes ≤ length (plan (marksOf member (now settings) (now image)) 908)) × (at + 2 * writes ≤ length (now buffer)) ⌝ }
-    ensures { λ _. ⌜ now (buffer .exit) ≡ sets (now (buffer .entry)) at (sizesBytes (transactionLengths (take writes (plan (marksOf member (now (settings .entry)) (now (image .entry))) 908)))) ⌝ }
+    requires { ⌜ Tables (now kinds) (matrix .member) (matrix .lines) (matrix .columns) × Pair (matrix .member) (now settings) (now image) × (writes ≤ length (plan (marksOf (matrix .member) (now settings) (now image)) 908)) × (at + 2 * writes ≤ length (now buffer)) ⌝ }
+    ensures { λ _. ⌜ now (buffer .exit) ≡ sets (now (buffer .entry)) at (sizesBytes (transactionLengths (take writes (plan (marksOf (matrix .member) (now (settings .entry)) (now (image .entry))) 908)))) ⌝ }
 {
     let mut from: usize = 1;
     let mut i: usize = 0;
     while i < writes {
         let start = runs::first_differing(settings, image, from);
-        let end = runs::run_end(kinds, member, lines, columns, settings, image, start + 1);
+        let end = runs::run_end(kinds, matrix, settings, image, start + 1);
         burst::put_size(buffer, at + 2 * i, end - start + 2);
         from = end;
         i += 1;
@@ -98,17 +102,16 @@ fn put_first(
     buffer: &mut [u8],
     at: usize,
     first: usize,
-    bus: u8,
-    pins: u8,
+    wiring: Wiring,
     settings: &[u8],
     image: &mut [u8; 908],
 )
     requires { ⌜ (first ≤ 1) × (length (now settings) ≡ 908) × (length (now image) ≡ 908) × (at + 3 * first ≤ length (now buffer)) ⌝ }
-    ensures { λ _. ⌜ now (buffer .exit) ≡ sets (now (buffer .entry)) at (transactionBytes bus pins (now (settings .entry)) (firstRun first)) ⌝ }
+    ensures { λ _. ⌜ now (buffer .exit) ≡ sets (now (buffer .entry)) at (transactionBytes (wiring .bus) (wiring .pins) (now (settings .entry)) (firstRun first)) ⌝ }
     ensures { λ _. ⌜ now (image .exit) ≡ storeWrites (now (settings .entry)) (firstRun first) (now (image .entry)) ⌝ }
 {
     if first == 1 {
-        put_transaction(&mut buffer[at..], bus, pins, settings, 0, 1);
+        put_transaction(&mut buffer[at..], wiring, settings, 0, 1);
         take_data(image, settings, 0, 1);
     }
 }
@@ -117,28 +120,25 @@ fn put_first(
 fn put_writes<'a>(
     buffer: &mut [u8],
     place: usize,
-    bus: u8,
-    pins: u8,
+    wiring: Wiring,
     kinds: &[u8],
-    member: usize,
-    lines: usize,
-    columns: u32,
+    matrix: Matrix,
     settings: &'a [u8],
     old: &'a [u8],
     image: &mut [u8; 908],
     writes: usize,
 )
-    requires { ⌜ Tables (now kinds) member lines columns × Pair member (now settings) (now old) × (length (now image) ≡ 908) × (writes ≤ length (plan (marksOf member (now settings) (now old)) 908)) × (place + cost (take writes (plan (marksOf member (now settings) (now old)) 908)) ≤ length (now buffer)) ⌝ }
-    ensures { λ _. ⌜ now (buffer .exit) ≡ sets (now (buffer .entry)) place (transactionBytes bus pins (now (settings .entry)) (take writes (plan (marksOf member (now (settings .entry)) (now (old .entry))) 908))) ⌝ }
-    ensures { λ _. ⌜ now (image .exit) ≡ storeWrites (now (settings .entry)) (take writes (plan (marksOf member (now (settings .entry)) (now (old .entry))) 908)) (now (image .entry)) ⌝ }
+    requires { ⌜ Tables (now kinds) (matrix .member) (matrix .lines) (matrix .columns) × Pair (matrix .member) (now settings) (now old) × (length (now image) ≡ 908) × (writes ≤ length (plan (marksOf (matrix .member) (now settings) (now old)) 908)) × (place + cost (take writes (plan (marksOf (matrix .member) (now settings) (now old)) 908)) ≤ length (now buffer)) ⌝ }
+    ensures { λ _. ⌜ now (buffer .exit) ≡ sets (now (buffer .entry)) place (transactionBytes (wiring .bus) (wiring .pins) (now (settings .entry)) (take writes (plan (marksOf (matrix .member) (now (settings .entry)) (now (old .entry))) 908))) ⌝ }
+    ensures { λ _. ⌜ now (image .exit) ≡ storeWrites (now (settings .entry)) (take writes (plan (marksOf (matrix .member) (now (settings .entry)) (now (old .entry))) 908)) (now (image .entry)) ⌝ }
 {
     let mut from: usize = 1;
     let mut at = place;
     let mut i: usize = 0;
     while i < writes {
         let start = runs::first_differing(settings, old, from);
-        let end = runs::run_end(kinds, member, lines, columns, settings, old, start + 1);
-        put_transaction(&mut buffer[at..], bus, pins, settings, start, end - start);
+        let end = runs::run_end(kinds, matrix, settings, old, start + 1);
+        put_transaction(&mut buffer[at..], wiring, settings, start, end - start);
         take_data(image, settings, start, end - start);
         at += end - start + 2;
         from = end;
@@ -164,16 +164,9 @@ struct Size {
     bytes: usize,
 }
 
-fn list_sizes<'a>(
-    kinds: &[u8],
-    member: usize,
-    lines: usize,
-    columns: u32,
-    settings: &'a [u8],
-    image: &'a [u8],
-) -> Size
-    requires { ⌜ Tables (now kinds) member lines columns × Pair member (now settings) (now image) ⌝ }
-    ensures { λ r. ⌜ ListSizes member (now (settings .entry)) (now (image .entry)) (r .first) (r .writes) (r .bytes) ⌝ }
+fn list_sizes<'a>(kinds: &[u8], matrix: Matrix, settings: &'a [u8], image: &'a [u8]) -> Size
+    requires { ⌜ Tables (now kinds) (matrix .member) (matrix .lines) (matrix .columns) × Pair (matrix .member) (now settings) (now image) ⌝ }
+    ensures { λ r. ⌜ ListSizes (matrix .member) (now (settings .entry)) (now (image .entry)) (r .first) (r .writes) (r .bytes) ⌝ }
 {
     let first = first_count(settings, image);
     if settings[0] % 2 != 1 {
@@ -183,7 +176,7 @@ fn list_sizes<'a>(
             bytes: 0,
         };
     }
-    let counted = runs::count_writes(kinds, member, lines, columns, settings, image);
+    let counted = runs::count_writes(kinds, matrix, settings, image);
     Size {
         first: first,
         writes: counted.writes,
@@ -195,46 +188,31 @@ fn list_sizes<'a>(
 fn put_list<'a>(
     buffer: &mut [u8],
     size: Size,
-    bus: u8,
-    pins: u8,
+    wiring: Wiring,
     kinds: &[u8],
-    member: usize,
-    lines: usize,
-    columns: u32,
+    matrix: Matrix,
     settings: &'a [u8],
     old: &'a [u8],
     image: &mut [u8; 908],
 )
-    requires { ⌜ Tables (now kinds) member lines columns × Pair member (now settings) (now old) × ListSizes member (now settings) (now old) (size .first) (size .writes) (size .bytes) × (length (now image) ≡ 908) × (4 + 2 * (size .first + size .writes) + (3 * size .first + size .bytes) ≤ length (now buffer)) ⌝ }
-    ensures { λ _. ⌜ now (buffer .exit) ≡ sets (now (buffer .entry)) 0 (listBytes bus pins member (now (settings .entry)) (now (old .entry)) (size .first) (size .bytes)) ⌝ }
-    ensures { λ _. ⌜ now (image .exit) ≡ storeWrites (now (settings .entry)) (pendingRuns member (now (settings .entry)) (now (old .entry)) (size .first)) (now (image .entry)) ⌝ }
+    requires { ⌜ Tables (now kinds) (matrix .member) (matrix .lines) (matrix .columns) × Pair (matrix .member) (now settings) (now old) × ListSizes (matrix .member) (now settings) (now old) (size .first) (size .writes) (size .bytes) × (length (now image) ≡ 908) × (4 + 2 * (size .first + size .writes) + (3 * size .first + size .bytes) ≤ length (now buffer)) ⌝ }
+    ensures { λ _. ⌜ now (buffer .exit) ≡ sets (now (buffer .entry)) 0 (listBytes (wiring .bus) (wiring .pins) (matrix .member) (now (settings .entry)) (now (old .entry)) (size .first) (size .bytes)) ⌝ }
+    ensures { λ _. ⌜ now (image .exit) ≡ storeWrites (now (settings .entry)) (pendingRuns (matrix .member) (now (settings .entry)) (now (old .entry)) (size .first)) (now (image .entry)) ⌝ }
 {
     let first = size.first;
     let writes = size.writes;
     let n = first + writes;
     let t = 3 * first + size.bytes;
+    let at = 4 + 2 * n;
     put_header(buffer, n, t, first);
-    put_lengths(
-        buffer,
-        4 + 2 * first,
-        kinds,
-        member,
-        lines,
-        columns,
-        settings,
-        old,
-        writes,
-    );
-    put_first(buffer, 4 + 2 * n, first, bus, pins, settings, image);
+    put_lengths(buffer, 4 + 2 * first, kinds, matrix, settings, old, writes);
+    put_first(buffer, at, first, wiring, settings, image);
     put_writes(
         buffer,
-        4 + 2 * n + 3 * first,
-        bus,
-        pins,
+        at + 3 * first,
+        wiring,
         kinds,
-        member,
-        lines,
-        columns,
+        matrix,
         settings,
         old,
         image,
@@ -262,27 +240,22 @@ pub(crate) fn update<'a>(
     }
     let kinds = map::kind_table();
     let m = member as usize;
-    let lines = map::lines(m);
-    let columns = map::columns(m);
-    let size = list_sizes(&kinds, m, lines, columns, settings, old);
+    let matrix = Matrix {
+        member: m,
+        lines: map::lines(m),
+        columns: map::columns(m),
+    };
+    let size = list_sizes(&kinds, matrix, settings, old);
     let n = size.first + size.writes;
     let t = 3 * size.first + size.bytes;
     let needed = 4 + 2 * n + t;
     if buffer.len() < needed {
         return ListAnswer::Short { needed: needed };
     }
-    put_list(
-        buffer,
-        size,
-        bus,
-        pins,
-        &kinds,
-        m,
-        lines,
-        columns,
-        settings,
-        old,
-        image,
-    );
+    let wiring = Wiring {
+        bus: bus,
+        pins: pins,
+    };
+    put_list(buffer, size, wiring, &kinds, matrix, settings, old, image);
     ListAnswer::Listed { n: n, t: t }
 }

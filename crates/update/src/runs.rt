@@ -9,6 +9,13 @@ ghost use Rattle.map.specs.Map.{linesOf, columnsOf, writableOf};
 ghost use Rattle.map.specs.KindTable.{kindTable};
 ghost use Rattle.update.specs.Runs.{Pair, Tables, FirstDiffering, Further, RunEnd, Counted, differsAt};
 
+// A member and the size of its matrix, read once a call.
+pub(crate) struct Matrix {
+    pub member: usize,
+    pub lines: usize,
+    pub columns: u32,
+}
+
 // The first address from `from` on at which the two differ; 908 where there is none.
 pub(crate) fn first_differing<'a>(settings: &'a [u8], image: &'a [u8], from: usize) -> usize
     requires { ⌜ (length (now settings) ≡ 908) × (length (now image) ≡ 908) × (from ≤ 908) ⌝ }
@@ -34,32 +41,32 @@ fn differs<'a>(settings: &'a [u8], image: &'a [u8], a: usize) -> bool
     settings[a] != image[a]
 }
 
-// Whether an address is writable, with the member's tables at hand.
-fn is_writable(kinds: &[u8], member: usize, lines: usize, columns: u32, a: usize) -> bool
-    requires { ⌜ Tables (now kinds) member lines columns ⌝ }
-    ensures { λ r. ⌜ r ≡ writableOf member a ⌝ }
+// Whether an address is writable.
+fn is_writable(kinds: &[u8], matrix: Matrix, a: usize) -> bool
+    requires { ⌜ Tables (now kinds) (matrix .member) (matrix .lines) (matrix .columns) ⌝ }
+    ensures { λ r. ⌜ r ≡ writableOf (matrix .member) a ⌝ }
 {
-    map::reserved_as(map::kind_in(kinds, a), member, lines, columns, a) < 255
+    let kind = map::kind_in(kinds, a);
+    let mask = map::reserved_as(kind, matrix.member, matrix.lines, matrix.columns, a);
+    mask < 255
 }
 
 // How far the write that has come to `end` goes on: behind the next differing address if that joins, else `end` itself.
 fn further<'a>(
     kinds: &[u8],
-    member: usize,
-    lines: usize,
-    columns: u32,
+    matrix: Matrix,
     settings: &'a [u8],
     image: &'a [u8],
     end: usize,
 ) -> usize
-    requires { ⌜ Tables (now kinds) member lines columns × Pair member (now settings) (now image) × (0 < end) × (end < 908) ⌝ }
-    ensures { λ r. ⌜ Further member (now (settings .entry)) (now (image .entry)) end r ⌝ }
+    requires { ⌜ Tables (now kinds) (matrix .member) (matrix .lines) (matrix .columns) × Pair (matrix .member) (now settings) (now image) × (0 < end) × (end < 908) ⌝ }
+    ensures { λ r. ⌜ Further (matrix .member) (now (settings .entry)) (now (image .entry)) end r ⌝ }
 {
     if differs(settings, image, end) {
         return end + 1;
     }
     if differs(settings, image, end + 1) {
-        if is_writable(kinds, member, lines, columns, end) {
+        if is_writable(kinds, matrix, end) {
             return end + 2;
         }
         return end;
@@ -67,10 +74,10 @@ fn further<'a>(
     if !differs(settings, image, end + 2) {
         return end;
     }
-    if !is_writable(kinds, member, lines, columns, end) {
+    if !is_writable(kinds, matrix, end) {
         return end;
     }
-    if !is_writable(kinds, member, lines, columns, end + 1) {
+    if !is_writable(kinds, matrix, end + 1) {
         return end;
     }
     end + 3
@@ -79,19 +86,17 @@ fn further<'a>(
 // Where the write ends that has come to `from`.
 pub(crate) fn run_end<'a>(
     kinds: &[u8],
-    member: usize,
-    lines: usize,
-    columns: u32,
+    matrix: Matrix,
     settings: &'a [u8],
     image: &'a [u8],
     from: usize,
 ) -> usize
-    requires { ⌜ Tables (now kinds) member lines columns × Pair member (now settings) (now image) × (0 < from) × (from ≤ 908) ⌝ }
-    ensures { λ r. ⌜ RunEnd member (now (settings .entry)) (now (image .entry)) from r ⌝ }
+    requires { ⌜ Tables (now kinds) (matrix .member) (matrix .lines) (matrix .columns) × Pair (matrix .member) (now settings) (now image) × (0 < from) × (from ≤ 908) ⌝ }
+    ensures { λ r. ⌜ RunEnd (matrix .member) (now (settings .entry)) (now (image .entry)) from r ⌝ }
 {
     let mut end = from;
     while end < 908 {
-        let next = further(kinds, member, lines, columns, settings, image, end);
+        let next = further(kinds, matrix, settings, image, end);
         if next == end {
             return end;
         }
@@ -108,20 +113,18 @@ pub(crate) struct Totals {
 
 pub(crate) fn count_writes<'a>(
     kinds: &[u8],
-    member: usize,
-    lines: usize,
-    columns: u32,
+    matrix: Matrix,
     settings: &'a [u8],
     image: &'a [u8],
 ) -> Totals
-    requires { ⌜ Tables (now kinds) member lines columns × Pair member (now settings) (now image) ⌝ }
-    ensures { λ r. ⌜ Counted member (now (settings .entry)) (now (image .entry)) (r .writes) (r .bytes) ⌝ }
+    requires { ⌜ Tables (now kinds) (matrix .member) (matrix .lines) (matrix .columns) × Pair (matrix .member) (now settings) (now image) ⌝ }
+    ensures { λ r. ⌜ Counted (matrix .member) (now (settings .entry)) (now (image .entry)) (r .writes) (r .bytes) ⌝ }
 {
     let mut writes: usize = 0;
     let mut bytes: usize = 0;
     let mut at = first_differing(settings, image, 1);
     while at < 908 {
-        let end = run_end(kinds, member, lines, columns, settings, image, at + 1);
+        let end = run_end(kinds, matrix, settings, image, at + 1);
         writes += 1;
         bytes += end - at + 2;
         at = first_differing(settings, image, end);

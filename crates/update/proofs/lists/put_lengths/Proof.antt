@@ -9,10 +9,10 @@ use Rattle.update.proofs.lists.put_lengths.Statement.{statement}
 use Rattle.update.proofs.lists.put_lengths.Tie as tie
 
 abbrev Inv-loop : tie.InvT-loop
-Inv-loop buffer₀ at kinds member lines columns settings image writes from₀ i₀ buffer from i = (i ≤ writes) × Lengthened member settings image buffer₀ at i from buffer
+Inv-loop buffer₀ at kinds matrix settings image writes from₀ i₀ buffer from i = (i ≤ writes) × Lengthened (matrix .member) settings image buffer₀ at i from buffer
 
 abbrev μ-loop : tie.MeasureT-loop
-μ-loop buffer₀ at kinds member lines columns settings image writes from₀ i₀ buffer from i = writes - i
+μ-loop buffer₀ at kinds matrix settings image writes from₀ i₀ buffer from i = writes - i
 
 loop-holds : tie.Need-loop-holds Inv-loop μ-loop
 loop-holds c = (omega arith, lengthened-start _ _ _ _ _)

@@ -21,6 +21,12 @@ mul-t c = search needs
 add-t : tie.Need-add-t
 add-t c = search needs
 
+mul-at : tie.Need-mul-at
+mul-at c = search needs
+
+add-at : tie.Need-add-at
+add-at c = search needs
+
 put-header-requires : tie.Need-put-header-requires
 put-header-requires c κs = search needs
 
@@ -33,12 +39,6 @@ add-put-lengths c = search needs
 put-lengths-requires : tie.Need-put-lengths-requires
 put-lengths-requires c κs = ((c .before .before .before .before .before .before .before .before .before .before .pre .0), (c .before .before .before .before .before .before .before .before .before .before .pre .1), writes-most _ _ _ _ _ _ (c .before .before .before .before .before .before .before .before .before .before .pre .2), omega (arith, (c .before .before .before .before .before .before .before .before .before .before .pre .4), c .before .before .before .put-header .kept .0))
 
-mul-put-first : tie.Need-mul-put-first
-mul-put-first c = search needs
-
-add-put-first : tie.Need-add-put-first
-add-put-first c = search needs
-
 put-first-requires : tie.Need-put-first-requires
 put-first-requires c κs = search needs
 
@@ -47,12 +47,6 @@ mul-put-writes c = search needs
 
 add-put-writes : tie.Need-add-put-writes
 add-put-writes c = search needs
-
-mul-put-writes-2 : tie.Need-mul-put-writes-2
-mul-put-writes-2 c = search needs
-
-add-put-writes-2 : tie.Need-add-put-writes-2
-add-put-writes-2 c = search needs
 
 put-writes-requires : tie.Need-put-writes-requires
 put-writes-requires c κs = ((c .before .before .before .before .before .before .before .before .before .before .before .before .before .before .before .before .before .before .before .before .pre .0), (c .before .before .before .before .before .before .before .before .before .before .before .before .before .before .before .before .before .before .before .before .pre .1), ap length (c .before .before .before .before .put-first .ensures .1) ∙ stored-length (map (dataOf (c .before .before .before .before .before .before .before .before .before .before .before .before .before .before .before .before .before .before .before .before .args .settings .now)) (firstRun (c .before .before .before .before .before .before .before .before .before .before .before .before .before .before .before .before .before .before .before .before .args .size .first))) (c .before .before .before .before .before .before .before .before .before .before .before .before .before .before .before .before .before .before .before .before .args .image .now) ∙ (c .before .before .before .before .before .before .before .before .before .before .before .before .before .before .before .before .before .before .before .before .pre .3), writes-most _ _ _ _ _ _ (c .before .before .before .before .before .before .before .before .before .before .before .before .before .before .before .before .before .before .before .before .pre .2), omega (arith, bytes-cost _ _ _ _ _ _ (c .before .before .before .before .before .before .before .before .before .before .before .before .before .before .before .before .before .before .before .before .pre .2), (c .before .before .before .before .before .before .before .before .before .before .before .before .before .before .before .before .before .before .before .before .pre .4), c .before .before .before .before .put-first .kept .0, c .before .before .before .before .before .before .before .before .before .put-lengths .kept .0, c .before .before .before .before .before .before .before .before .before .before .before .before .before .put-header .kept .0))
@@ -70,17 +64,15 @@ put-list-spec =
     add-n
     mul-t
     add-t
+    mul-at
+    add-at
     put-header-requires
     mul-put-lengths
     add-put-lengths
     put-lengths-requires
-    mul-put-first
-    add-put-first
     put-first-requires
     mul-put-writes
     add-put-writes
-    mul-put-writes-2
-    add-put-writes-2
     put-writes-requires
     same-length
     returns)

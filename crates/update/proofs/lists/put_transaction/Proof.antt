@@ -26,7 +26,7 @@ same-length : tie.Need-same-length
 same-length c = transaction-size (c .before .before .before .before .before .before .before .before .args .part .now) _ (c .before .before .before .before .before .before .before .before .args .settings .now) (c .before .before .before .before .before .before .before .before .args .start) (c .before .before .before .before .before .before .before .before .args .len) (c .before .before .before .before .before .head-first .result) (c .before .before .before .before .head-second .result) (c .before .before .put-data .ensures)
 
 returns : tie.Need-returns
-returns c = transaction-written (c .before .before .before .before .before .before .before .before .args .part .now) _ (c .before .before .before .before .before .before .before .before .args .settings .now) (c .before .before .before .before .before .before .before .before .args .bus) (c .before .before .before .before .before .before .before .before .args .pins) (c .before .before .before .before .before .before .before .before .args .start) (c .before .before .before .before .before .before .before .before .args .len) _ _ (c .before .before .before .before .before .head-first .ensures) (c .before .before .before .before .head-second .ensures) (c .before .before .put-data .ensures)
+returns c = transaction-written (c .before .before .before .before .before .before .before .before .args .part .now) _ (c .before .before .before .before .before .before .before .before .args .settings .now) (c .before .before .before .before .before .before .before .before .args .wiring .bus) (c .before .before .before .before .before .before .before .before .args .wiring .pins) (c .before .before .before .before .before .before .before .before .args .start) (c .before .before .before .before .before .before .before .before .args .len) _ _ (c .before .before .before .before .before .head-first .ensures) (c .before .before .before .before .head-second .ensures) (c .before .before .put-data .ensures)
 
 pub put-transaction-spec : {M : Type 1} → statement M
 put-transaction-spec =

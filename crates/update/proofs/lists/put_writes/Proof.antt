@@ -10,11 +10,11 @@ use Rattle.update.proofs.lists.put_writes.Statement.{statement}
 use Rattle.update.proofs.lists.put_writes.Tie as tie
 
 abbrev Inv-loop : tie.InvT-loop
-Inv-loop buffer₀ place bus pins kinds member lines columns settings old image₀ writes from₀ at₀ i₀ buffer image from at i =
-    (i ≤ writes) × Written member settings old bus pins buffer₀ image₀ place i from at buffer image
+Inv-loop buffer₀ place wiring kinds matrix settings old image₀ writes from₀ at₀ i₀ buffer image from at i =
+    (i ≤ writes) × Written (matrix .member) settings old (wiring .bus) (wiring .pins) buffer₀ image₀ place i from at buffer image
 
 abbrev μ-loop : tie.MeasureT-loop
-μ-loop buffer₀ place bus pins kinds member lines columns settings old image₀ writes from₀ at₀ i₀ buffer image from at i =
+μ-loop buffer₀ place wiring kinds matrix settings old image₀ writes from₀ at₀ i₀ buffer image from at i =
     writes - i
 
 loop-holds : tie.Need-loop-holds Inv-loop μ-loop

@@ -7,10 +7,10 @@ use Rattle.update.proofs.runs.count_writes.Statement.{statement}
 use Rattle.update.proofs.runs.count_writes.Tie as tie
 
 abbrev Inv-loop : tie.InvT-loop
-Inv-loop kinds member lines columns settings image writes₀ bytes₀ at₀ writes bytes at = Counting member settings image writes bytes at
+Inv-loop kinds matrix settings image writes₀ bytes₀ at₀ writes bytes at = Counting (matrix .member) settings image writes bytes at
 
 abbrev μ-loop : tie.MeasureT-loop
-μ-loop kinds member lines columns settings image writes₀ bytes₀ at₀ writes bytes at = 908 - at
+μ-loop kinds matrix settings image writes₀ bytes₀ at₀ writes bytes at = 908 - at
 
 first-differing-requires : tie.Need-first-differing-requires Inv-loop μ-loop
 first-differing-requires c κs = (c .before .before .before .pre .1 .settings-size, c .before .before .before .pre .1 .image-size, omega arith)

@@ -9,10 +9,10 @@ use Rattle.update.proofs.runs.run_end.Statement.{statement}
 use Rattle.update.proofs.runs.run_end.Tie as tie
 
 abbrev Inv-loop : tie.InvT-loop
-Inv-loop kinds member lines columns settings image from end₀ end = (from ≤ end) × (end ≤ 908) × Extends (marksOf member settings image) from end
+Inv-loop kinds matrix settings image from end₀ end = (from ≤ end) × (end ≤ 908) × Extends (marksOf (matrix .member) settings image) from end
 
 abbrev μ-loop : tie.MeasureT-loop
-μ-loop kinds member lines columns settings image from end₀ end = 908 - end
+μ-loop kinds matrix settings image from end₀ end = 908 - end
 
 loop-holds : tie.Need-loop-holds Inv-loop μ-loop
 loop-holds c = (omega arith, c .before .before .before .pre .3, extends-none _ _)
