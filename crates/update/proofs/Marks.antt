@@ -6,9 +6,11 @@ use mathlib.Core.Bool.{Bool, true, false, not, false≢true, true≢false}
 use mathlib.Core.List.{List}
 use Prim.Native.Nat.{ℕ, suc, _+_, _-_, _≤_, _<_}
 use native.Mathlib.Decide.{decLt, ℕ-discrete}
+use native.Mathlib.Nat.{add-zero}
 use native.Mathlib.Omega.{arith}
 use borrow.Author.Tests.{le-leb, lt-leb, eq-eqb, ne-eqb, eqb-true}
 use lib.Dec.{eqb}
+use lib.Bits.{bitOr, bitXor, or-add-and, xor-add-and, and-le-l, and-le-r}
 use lib.ListN.{getD}
 use Rattle.map.specs.Map.{writableOf}
 use Rattle.map.specs.ByteLaws.{writable-below}
@@ -16,7 +18,7 @@ use Rattle.plan.specs.Plan.{hole, clean, dirty}
 use Rattle.plan.specs.Update.{valueAt, markAt}
 use Rattle.plan.specs.UpdateLaws.{marks-at}
 use Rattle.plan.specs.RunLaws.{Closed, Extends, extends-more, extends-over}
-use Rattle.update.specs.Runs.{marksOf, Pair, differsAt, FirstDiffering, Further, RunEnd}
+use Rattle.update.specs.Runs.{marksOf, Pair, differsAt, SameTo, FirstDiffering, Further, RunEnd}
 
 module _ (m : ℕ) (settings image : List ℕ) where
   by-tests : (a : ℕ) (w e : Bool) → 0 < a → writableOf m a ≡ w → eqb (getD image a 0) (getD settings a 0) ≡ e → marksOf m settings image a ≡ markAt w e
@@ -198,11 +200,6 @@ module _ (m : ℕ) (settings image : List ℕ) where
 
 -- ---- first_differing
 
-pub record SameTo (settings image : List ℕ) (from a : ℕ) : Type 0 where
-  pub least : from ≤ a
-  pub most : a ≤ 908
-  pub same : (k : ℕ) → from ≤ k → k < a → getD settings k 0 ≡ getD image k 0
-
 pub same-none : (settings image : List ℕ) (from : ℕ) → from ≤ 908 → SameTo settings image from from
 same-none settings image from h = record { least = omega arith; most = h; same = λ k l u. absurd (omega arith) }
 
@@ -212,6 +209,35 @@ same-more settings image from a h s e = record { least = omega (arith, s .least)
     at : (k : ℕ) → from ≤ k → k < a + 1 → Dec (k ≡ a) → getD settings k 0 ≡ getD image k 0
     at k l u (yes q) = subst (λ (x : ℕ). getD settings x 0 ≡ getD image x 0) (sym q) e
     at k l u (no q) = s .same k l (omega arith)
+
+pub same-join : (settings image : List ℕ) (from a b : ℕ) → SameTo settings image from a → SameTo settings image a b → SameTo settings image from b
+same-join settings image from a b s t = record { least = omega (arith, s .least, t .least); most = t .most; same = λ k l u. at k l u (decLt k a) }
+  where
+    at : (k : ℕ) → from ≤ k → k < b → Dec (k < a) → getD settings k 0 ≡ getD image k 0
+    at k l u (yes h) = s .same k l h
+    at k l u (no n) = t .same k (omega arith) u
+
+-- gathered bits that are 0 are of bytes that are the same
+gathered : (bits x y : ℕ) → bitOr bits (bitXor x y) ≡ 0 → (bits ≡ 0) × (x ≡ y)
+gathered bits x y e =
+    let o = or-add-and bits (bitXor x y) in
+    let z : bitXor x y ≡ 0 = omega (arith, o, and-le-l bits (bitXor x y)) in
+    (omega (arith, o, and-le-r bits (bitXor x y)), omega (arith, z, xor-add-and x y, and-le-l x y, and-le-r x y))
+
+pub block-none : (settings image : List ℕ) (from : ℕ) → from ≤ 908 → SameTo settings image from (from + 0)
+block-none settings image from h = subst (SameTo settings image from) (sym (add-zero from)) (same-none settings image from h)
+
+pub block-more : (settings image : List ℕ) (from i bits : ℕ) → from + i < 908 → (bits ≡ 0 → SameTo settings image from (from + i)) →
+    bitOr bits (bitXor (getD settings (from + i) 0) (getD image (from + i) 0)) ≡ 0 → SameTo settings image from (from + (i + 1))
+block-more settings image from i bits h s e =
+    let g = gathered bits (getD settings (from + i) 0) (getD image (from + i) 0) e in
+    subst (SameTo settings image from) (next from i) (same-more settings image from (from + i) h (s (g .0)) (g .1))
+  where
+    next : (x y : ℕ) → x + y + 1 ≡ x + (y + 1)
+    next x y = omega arith
+
+pub block-whole : (settings image : List ℕ) (from i : ℕ) → i ≡ 32 → SameTo settings image from (from + i) → SameTo settings image from (from + 32)
+block-whole settings image from i e s = subst (λ (k : ℕ). SameTo settings image from (from + k)) e s
 
 pub found : (settings image : List ℕ) (from a : ℕ) → SameTo settings image from a → (getD settings a 0 ≡ getD image a 0 → ⊥) → FirstDiffering settings image from a
 found settings image from a s n = record { least = s .least; most = s .most; same = s .same; differs = λ h. n }

@@ -32,6 +32,12 @@ pub record Pair (m : ℕ) (settings image : List ℕ) : Type 0 where
 unfoldable pub differsAt : List ℕ → List ℕ → ℕ → Bool
 differsAt settings image a = cond (leb 908 a) false (not (eqb (getD settings a 0) (getD image a 0)))
 
+-- the two agree from `from` up to a
+pub record SameTo (settings image : List ℕ) (from a : ℕ) : Type 0 where
+  pub least : from ≤ a
+  pub most : a ≤ 908
+  pub same : (k : ℕ) → from ≤ k → k < a → getD settings k 0 ≡ getD image k 0
+
 pub record FirstDiffering (settings image : List ℕ) (from r : ℕ) : Type 0 where
   pub least : from ≤ r
   pub most : r ≤ 908

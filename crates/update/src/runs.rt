@@ -3,11 +3,12 @@
 // In a sound record a differing byte is writable, so the scan looks for differing bytes alone, and asks whether an address is
 // writable only of the one or two that a write would send again.
 ghost use mathlib.Core.Path.{_≡_};
+ghost use mathlib.Core.Bool.{true};
 ghost use Prim.Native.Nat.{_+_, _<_, _≤_};
 ghost use lib.ListN.{length};
 ghost use Rattle.map.specs.Map.{linesOf, columnsOf, writableOf};
 ghost use Rattle.map.specs.KindTable.{kindTable};
-ghost use Rattle.update.specs.Runs.{Pair, Tables, FirstDiffering, Further, RunEnd, Counted, differsAt};
+ghost use Rattle.update.specs.Runs.{Pair, Tables, SameTo, FirstDiffering, Further, RunEnd, Counted, differsAt};
 
 // A member and the size of its matrix, read once a call.
 pub(crate) struct Matrix {
@@ -16,12 +17,45 @@ pub(crate) struct Matrix {
     pub columns: u32,
 }
 
+// So many bytes are compared at once where nothing differs.
+const BLOCK: usize = 32;
+
+// Whether the BLOCK bytes from `from` on are the same in both. The bits are gathered with no early return, so that many bytes are taken
+// at once.
+fn same_block<'a>(settings: &'a [u8], image: &'a [u8], from: usize) -> bool
+    requires { ⌜ (length (now settings) ≡ 908) × (length (now image) ≡ 908) × (from + 32 ≤ 908) ⌝ }
+    ensures { λ r. ⌜ (r ≡ true → SameTo (now (settings .entry)) (now (image .entry)) from (from + 32)) ⌝ }
+{
+    let mut bits: u8 = 0;
+    let mut i: usize = 0;
+    while i < BLOCK {
+        bits |= settings[from + i] ^ image[from + i];
+        i += 1;
+    }
+    bits == 0
+}
+
+// The address behind the blocks of same bytes from `from` on.
+fn past_same<'a>(settings: &'a [u8], image: &'a [u8], from: usize) -> usize
+    requires { ⌜ (length (now settings) ≡ 908) × (length (now image) ≡ 908) × (from ≤ 908) ⌝ }
+    ensures { λ r. ⌜ SameTo (now (settings .entry)) (now (image .entry)) from r ⌝ }
+{
+    let mut a = from;
+    while a + BLOCK <= 908 {
+        if !same_block(settings, image, a) {
+            return a;
+        }
+        a += BLOCK;
+    }
+    a
+}
+
 // The first address from `from` on at which the two differ; 908 where there is none.
 pub(crate) fn first_differing<'a>(settings: &'a [u8], image: &'a [u8], from: usize) -> usize
     requires { ⌜ (length (now settings) ≡ 908) × (length (now image) ≡ 908) × (from ≤ 908) ⌝ }
     ensures { λ r. ⌜ FirstDiffering (now (settings .entry)) (now (image .entry)) from r ⌝ }
 {
-    let mut a = from;
+    let mut a = past_same(settings, image, from);
     while a < 908 {
         if settings[a] != image[a] {
             return a;

@@ -2,7 +2,9 @@
 -- Assumes nothing.
 use native.Mathlib.Omega.{arith}
 use Prim.Native.Nat.{_-_}
-use Rattle.update.proofs.Marks.{SameTo, same-none, same-more, found, none-found}
+use borrow.Author.Needs.{needs}
+use Rattle.update.specs.Runs.{SameTo}
+use Rattle.update.proofs.Marks.{same-more, found, none-found}
 use Rattle.update.proofs.runs.first_differing.Statement.{statement}
 use Rattle.update.proofs.runs.first_differing.Tie as tie
 
@@ -12,8 +14,11 @@ Inv-loop settings image from a₀ a = SameTo settings image from a
 abbrev μ-loop : tie.MeasureT-loop
 μ-loop settings image from a₀ a = 908 - a
 
+past-same-requires : tie.Need-past-same-requires Inv-loop μ-loop
+past-same-requires c κs = search needs
+
 loop-holds : tie.Need-loop-holds Inv-loop μ-loop
-loop-holds c = same-none _ _ _ (c .pre .2)
+loop-holds c = c .past-same .ensures
 
 shared-slice-read-if1 : tie.Need-shared-slice-read-if1 Inv-loop μ-loop
 shared-slice-read-if1 c = omega arith
@@ -42,6 +47,7 @@ first-differing-spec =
     (tie.spec
     Inv-loop
     μ-loop
+    past-same-requires
     loop-holds
     shared-slice-read-if1
     shared-slice-read-if1-2
