@@ -49,7 +49,7 @@ fn clear_shorts(registers: &mut [u8; 908])
 fn reset(member: usize, registers: &mut [u8; 908])
     ensures { λ _. ⌜ now (registers .exit) ≡ resetImage member ⌝ }
 {
-    let image = map::reset_image(member);
+    let image = images::reset_image(member);
     *registers = image;
 }
 

@@ -16,14 +16,14 @@ pub(crate) fn sound(member: u8, bus: u8, pins: u8, registers: &[u8]) -> bool
     let Answer::Accepted = answer else {
         return false;
     };
-    map::registers_ok(member as usize, registers)
+    images::registers_ok(member as usize, registers)
 }
 
 fn new_chip(member: usize, bus: usize, pins: usize) -> Chip
     requires { ⌜ (member < 5) × (bus < 2) × (pins < 4) ⌝ }
     ensures { λ r. ⌜ r ≡ newChip member bus pins ⌝ }
 {
-    let registers = map::reset_image(member);
+    let registers = images::reset_image(member);
     Chip {
         member: member as u8,
         bus: bus as u8,
@@ -49,5 +49,5 @@ pub(crate) fn lost(member: usize, registers: [u8; 908]) -> [u8; 908]
     if 4 < member {
         return registers;
     }
-    map::reset_image(member)
+    images::reset_image(member)
 }

@@ -22,7 +22,7 @@ pub(crate) fn opened(member: usize) -> Ledger
     ensures { λ r. ⌜ r ≡ openedLedger member ⌝ }
 {
     let known = known(member);
-    let bytes = map::reset_image(known as usize);
+    let bytes = images::reset_image(known as usize);
     Ledger {
         member: known,
         bytes: bytes,

@@ -13,10 +13,10 @@ pub(crate) fn sound<'a>(member: u8, bus: u8, pins: u8, settings: &'a [u8], image
     let Answer::Accepted = answer else {
         return false;
     };
-    if !map::image_ok(member as usize, settings) {
+    if !images::image_ok(member as usize, settings) {
         return false;
     }
-    map::image_ok(member as usize, image)
+    images::image_ok(member as usize, image)
 }
 
 pub(crate) fn unsound<'a>(

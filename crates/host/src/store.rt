@@ -16,7 +16,7 @@ fn new_record(member: usize, bus: usize, pins: usize) -> Record
     requires { ⌜ (member < 5) × (bus < 2) × (pins < 4) ⌝ }
     ensures { λ r. ⌜ r ≡ opened member bus pins ⌝ }
 {
-    let image = map::reset_image(member);
+    let image = images::reset_image(member);
     Record {
         member: member as u8,
         bus: bus as u8,
@@ -127,5 +127,5 @@ pub(crate) fn lost(answer: Answer, member: usize, image: [u8; 908]) -> [u8; 908]
     let Answer::Accepted = answer else {
         return image;
     };
-    map::reset_image(member)
+    images::reset_image(member)
 }

@@ -1,4 +1,2 @@
 pub mod Tables
 pub mod Masks
-pub mod Steps
-pub mod Whole

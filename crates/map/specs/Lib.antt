@@ -12,5 +12,4 @@ pub mod ByteLaws
 pub mod PlaceLaws
 pub mod WritableLaws
 pub mod ImageLaws
-pub mod Ranges
 pub mod MapExamples

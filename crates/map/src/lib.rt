@@ -6,7 +6,6 @@
 //
 // Every function here takes any number that its types allow, a member above 4 and an address above 38Bh included.
 mod dots;
-mod images;
 mod kinds;
 mod members;
 mod refusals;
@@ -23,21 +22,26 @@ pub use dots::is_dot;
 pub use dots::number_in;
 pub use dots::place_of;
 pub use dots::width_of;
-pub use images::image_ok;
-pub use images::registers_ok;
-pub use images::reset_image;
 pub use kinds::Kind;
 pub use kinds::kind_at;
 pub use kinds::kind_in;
 pub use kinds::kind_table;
 pub use members::columns;
+pub use members::first_masks;
+pub use members::first_resets;
 pub use members::lines;
+pub use members::switch_bytes;
 pub use refusals::Answer;
 pub use refusals::Refusal;
 pub use refusals::answer_number;
 pub use refusals::open_answer;
 pub use refusals::refusal_number;
+pub use registers::current_reset;
+pub use registers::group_mask;
+pub use registers::pwm_reserved;
 pub use registers::reserved;
 pub use registers::reserved_as;
 pub use registers::reset_value;
+pub use registers::switch_mask;
+pub use registers::switch_reset;
 pub use registers::writable;

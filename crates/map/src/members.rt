@@ -72,14 +72,14 @@ pub fn columns(member: usize) -> u32
     if member < 5 { COLUMNS[member] } else { 0 }
 }
 
-pub(crate) fn switch_bytes(member: usize) -> usize
+pub fn switch_bytes(member: usize) -> usize
     ensures { λ r. ⌜ r ≡ switchBytesOf member ⌝ }
 {
     if member < 5 { SWITCH_BYTES[member] } else { 0 }
 }
 
 // The reserved bits of the first twelve registers, for a member below 5.
-pub(crate) fn first_masks(member: usize) -> [u8; 12]
+pub fn first_masks(member: usize) -> [u8; 12]
     ensures { λ r. ⌜ r ≡ firstMasks member ⌝ }
 {
     if member == 1 {
@@ -89,7 +89,7 @@ pub(crate) fn first_masks(member: usize) -> [u8; 12]
     }
 }
 
-pub(crate) fn first_resets() -> [u8; 12]
+pub fn first_resets() -> [u8; 12]
     ensures { λ r. ⌜ r ≡ firstResets ⌝ }
 {
     FIRST_RESETS

@@ -23,7 +23,7 @@ fn no_sink(columns: u32, sink: usize) -> u8
 }
 
 // The bits of absent sinks in byte q of the five group bytes of a line.
-pub(crate) fn group_mask(columns: u32, q: usize) -> u8
+pub fn group_mask(columns: u32, q: usize) -> u8
     ensures { λ r. ⌜ r ≡ groupMask columns q ⌝ }
 {
     if 4 < q {
@@ -38,7 +38,7 @@ pub(crate) fn group_mask(columns: u32, q: usize) -> u8
 }
 
 // The bits of absent sinks in byte q of the three switch bytes of a line.
-pub(crate) fn switch_mask(columns: u32, q: usize) -> u8
+pub fn switch_mask(columns: u32, q: usize) -> u8
     ensures { λ r. ⌜ r ≡ switchMask columns q ⌝ }
 {
     if 2 < q {
@@ -84,7 +84,7 @@ fn current_reserved(lines: usize, columns: u32, x: usize) -> u8
 }
 
 // Place x of the levels is dot x in 8 bits and dot x / 2 in 16: either will do.
-pub(crate) fn pwm_reserved(lines: usize, columns: u32, x: usize) -> u8
+pub fn pwm_reserved(lines: usize, columns: u32, x: usize) -> u8
     ensures { λ r. ⌜ r ≡ pwmReserved lines columns x ⌝ }
 {
     if number_in(lines, columns, x / 2) {
@@ -134,7 +134,7 @@ pub fn writable(member: usize, address: usize) -> bool
 }
 
 // FFh FFh 03h, over and over, as far as the summary table lists switch bytes.
-pub(crate) fn switch_reset(listed: usize, x: usize) -> u8
+pub fn switch_reset(listed: usize, x: usize) -> u8
     ensures { λ r. ⌜ r ≡ switchReset listed x ⌝ }
 {
     if listed <= x {
@@ -144,7 +144,7 @@ pub(crate) fn switch_reset(listed: usize, x: usize) -> u8
 }
 
 // 80h at every dot number of the member's lines, absent sinks included.
-pub(crate) fn current_reset(lines: usize, x: usize) -> u8
+pub fn current_reset(lines: usize, x: usize) -> u8
     ensures { λ r. ⌜ r ≡ currentReset lines x ⌝ }
 {
     if x / 18 < lines { 0x80 } else { 0 }

@@ -52,7 +52,7 @@ pub(crate) fn after_reset(answer: ListAnswer, member: usize, image: [u8; 908]) -
     ensures { λ r. ⌜ r ≡ cond (isListed answer) (resetImage member) image ⌝ }
 {
     match answer {
-        ListAnswer::Listed { n: _, t: _ } => map::reset_image(member),
+        ListAnswer::Listed { n: _, t: _ } => images::reset_image(member),
         ListAnswer::Short { needed: _ } => image,
         ListAnswer::Refused(_) => image,
     }
