@@ -1,9 +1,9 @@
 -- What a call answers and stores, once the calls on values are done.
 -- Assumes nothing.
-use mathlib.Core.Path.{_≡_, refl, subst}
+use mathlib.Core.Path.{_≡_, refl, ap, subst, _∙_}
 use mathlib.Core.Bool.{Bool, true, false, cond}
 use mathlib.Core.List.{List}
-use Prim.Native.Nat.{ℕ, _<_, _≤_, _^_}
+use Prim.Native.Nat.{ℕ, _≤_}
 use native.Mathlib.Omega.{arith}
 use borrow.Author.Tests.{eq-eqb, ne-eqb, le-ltb}
 use lib.Dec.{leb}
@@ -28,6 +28,8 @@ use Rattle.update.specs.declared.Updated.{Updated}
 use Rattle.update.specs.Update.{isListed, listNumber, listSize, writesOf, updateAnswer, updateOf, commandAnswer, chipResetOf, clearOf}
 use Rattle.update.specs.BoundLaws.{bus-most, writes-few, size-most}
 use Rattle.chip.specs.declared.Chip.{Chip}
+use Rattle.chip.specs.declared.Fed.{Fed}
+use Rattle.chip.specs.Chip.{feedOf}
 use Rattle.capi.specs.Capi.{recordBytes, chipBytes, recordSized, chipSized, whenSized, settingNumber, settingBytes, chipNumber, chipAfter, nAfter, tAfter, neededAfter, Fits}
 
 pub record-sized : (bytes : List ℕ) → length bytes ≡ 1819 → recordSized bytes ≡ true
@@ -56,6 +58,10 @@ module _ (bytes : List ℕ) (x : Changed) where
       Settled number bytes
   unfolding settingNumber settingBytes whenSized
   setting-refused refusal number h a e = (rw (record-sized bytes h, a) e, rw (record-sized bytes h, a) refl)
+
+-- the call on the record that the bytes have
+pub setting-is : (bytes new : List ℕ) (x y : Changed) (number : ℕ) → x ≡ y → Settled bytes x number new → Settled bytes y number new
+setting-is bytes new x y number e h = subst (λ (z : Changed). Settled bytes z number new) e h
 
 -- ---- Register with a value above 255
 
@@ -110,6 +116,15 @@ module _ (bytes : List ℕ) (answer : Answer) (c : Chip) where
   unfolding chipNumber chipAfter whenSized
   chip-refused refusal number h a e = (rw (chip-sized bytes h, a) e, rw (chip-sized bytes h, a) refl)
 
+pub chip-is : (bytes new : List ℕ) (a b : Answer) (c d : Chip) (number : ℕ) → a ≡ b → c ≡ d → ChipSettled bytes a c number new → ChipSettled bytes b d number new
+chip-is bytes new a b c d number ea ec h =
+    subst (λ (x : Answer). ChipSettled bytes x d number new) ea (subst (λ (x : Chip). ChipSettled bytes a x number new) ec h)
+
+pub fed-is : (bytes new list : List ℕ) (c d : Chip) (x : Fed) (number : ℕ) → x ≡ feedOf c list → c ≡ d → ChipSettled bytes (x .answer) (x .chip) number new →
+    ChipSettled bytes (feedOf d list .answer) (feedOf d list .chip) number new
+fed-is bytes new list c d x number e ec h =
+    subst (λ (z : Fed). ChipSettled bytes (z .answer) (z .chip) number new) (e ∙ ap (λ (k : Chip). feedOf k list) ec) h
+
 -- ---- lists are short
 
 module _ (r : Record) (size : ℕ) where
@@ -142,12 +157,6 @@ module _ (r : Record) (size : ℕ) where
 
 pub fits-same : (x y : Updated) → x ≡ y → Fits (y .answer) → Fits (x .answer)
 fits-same x y e h = rw e h
-
-pub listed-fits : (answer : ListAnswer) (n t : ℕ) → answer ≡ Listed n t → Fits answer → (n < 2 ^ 32) × (t < 2 ^ 32)
-listed-fits answer n t e h = subst Fits e h
-
-pub short-fits : (answer : ListAnswer) (needed : ℕ) → answer ≡ Short needed → Fits answer → needed < 2 ^ 32
-short-fits answer needed e h = subst Fits e h
 
 -- ---- what a list's answer stores
 

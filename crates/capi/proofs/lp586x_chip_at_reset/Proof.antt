@@ -1,7 +1,8 @@
 -- `capi::lp586x_chip_at_reset` meets its contract.
 -- Assumes nothing.
+use mathlib.Core.Path.{ap}
 use borrow.Author.Needs.{needs}
-use Rattle.capi.proofs.Settled.{chip-wrong}
+use Rattle.capi.proofs.Settled.{chip-wrong, chip-is}
 use Rattle.capi.proofs.lp586x_chip_at_reset.Statement.{statement}
 use Rattle.capi.proofs.lp586x_chip_at_reset.Tie as tie
 
@@ -18,7 +19,7 @@ same-length : tie.Need-same-length
 same-length c = search needs
 
 returns-2 : tie.Need-returns-2
-returns-2 c = rw (← (c .before .before .before .before .before .at-reset .ensures)) (c .before .before .settle-chip .ensures)
+returns-2 c = chip-is _ _ _ _ _ _ _ (ap (λ x. x .answer) (c .before .before .before .before .before .at-reset .ensures)) (ap (λ x. x .chip) (c .before .before .before .before .before .at-reset .ensures)) (c .before .before .settle-chip .ensures)
 
 pub lp586x-chip-at-reset-spec : {M : Type 1} → statement M
 lp586x-chip-at-reset-spec =

@@ -1,7 +1,7 @@
 -- `capi::lp586x_chip_feed` meets its contract.
 -- Assumes nothing.
 use borrow.Author.Needs.{needs}
-use Rattle.capi.proofs.Settled.{chip-wrong}
+use Rattle.capi.proofs.Settled.{chip-wrong, fed-is}
 use Rattle.capi.proofs.lp586x_chip_feed.Statement.{statement}
 use Rattle.capi.proofs.lp586x_chip_feed.Tie as tie
 
@@ -21,7 +21,7 @@ same-length : tie.Need-same-length
 same-length c = search needs
 
 returns-2 : tie.Need-returns-2
-returns-2 c = rw (← (c .before .before .before .before .before .before .load-chip .ensures), ← (c .before .before .before .before .before .feed .ensures)) (c .before .before .settle-chip .ensures)
+returns-2 c = fed-is _ _ _ _ _ _ _ (c .before .before .before .before .before .feed .ensures) (c .before .before .before .before .before .before .load-chip .ensures) (c .before .before .settle-chip .ensures)
 
 pub lp586x-chip-feed-spec : {M : Type 1} → statement M
 lp586x-chip-feed-spec =

@@ -1,7 +1,8 @@
 -- `capi::lp586x_chip_power_lost` meets its contract.
 -- Assumes nothing.
+use mathlib.Core.Path.{refl, _∙_}
 use borrow.Author.Needs.{needs}
-use Rattle.capi.proofs.Settled.{chip-wrong}
+use Rattle.capi.proofs.Settled.{chip-wrong, chip-is}
 use Rattle.capi.proofs.lp586x_chip_power_lost.Statement.{statement}
 use Rattle.capi.proofs.lp586x_chip_power_lost.Tie as tie
 
@@ -21,7 +22,7 @@ same-length : tie.Need-same-length
 same-length c = search needs
 
 returns-2 : tie.Need-returns-2
-returns-2 c = rw (← (c .before .before .before .before .before .load-chip .ensures), ← (c .before .before .before .before .power-lost .ensures)) (c .before .before .settle-chip .ensures)
+returns-2 c = chip-is _ _ _ _ _ _ _ refl (c .before .before .before .before .power-lost .ensures ∙ rw (c .before .before .before .before .before .load-chip .ensures) refl) (c .before .before .settle-chip .ensures)
 
 pub lp586x-chip-power-lost-spec : {M : Type 1} → statement M
 lp586x-chip-power-lost-spec =

@@ -1,7 +1,7 @@
 -- `capi::lp586x_open` meets its contract.
 -- Assumes nothing.
 use borrow.Author.Needs.{needs}
-use Rattle.capi.proofs.Settled.{setting-unsized}
+use Rattle.capi.proofs.Settled.{setting-unsized, setting-is}
 use Rattle.capi.proofs.lp586x_open.Statement.{statement}
 use Rattle.capi.proofs.lp586x_open.Tie as tie
 
@@ -18,7 +18,7 @@ same-length : tie.Need-same-length
 same-length c = search needs
 
 returns-2 : tie.Need-returns-2
-returns-2 c = rw (← (c .before .before .before .before .open .ensures)) (c .before .before .settle .ensures)
+returns-2 c = setting-is _ _ _ _ _ (c .before .before .before .before .open .ensures) (c .before .before .settle .ensures)
 
 pub lp586x-open-spec : {M : Type 1} → statement M
 lp586x-open-spec = tie.close (tie.spec returns open-requires settle-requires same-length returns-2)

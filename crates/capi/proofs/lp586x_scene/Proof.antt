@@ -1,7 +1,8 @@
 -- `capi::lp586x_scene` meets its contract.
 -- Assumes nothing.
+use mathlib.Core.Path.{refl, _∙_}
 use borrow.Author.Needs.{needs}
-use Rattle.capi.proofs.Settled.{setting-unsized}
+use Rattle.capi.proofs.Settled.{setting-unsized, setting-is}
 use Rattle.capi.proofs.lp586x_scene.Statement.{statement}
 use Rattle.capi.proofs.lp586x_scene.Tie as tie
 
@@ -21,7 +22,7 @@ same-length : tie.Need-same-length
 same-length c = search needs
 
 returns-2 : tie.Need-returns-2
-returns-2 c = rw (← (c .before .before .before .before .before .load .ensures), ← (c .before .before .before .before .scene .ensures)) (c .before .before .settle .ensures)
+returns-2 c = setting-is _ _ _ _ _ (c .before .before .before .before .scene .ensures ∙ rw (c .before .before .before .before .before .load .ensures) refl) (c .before .before .settle .ensures)
 
 pub lp586x-scene-spec : {M : Type 1} → statement M
 lp586x-scene-spec =

@@ -1,7 +1,10 @@
 -- `capi::answers::count` meets its contract.
 -- Assumes nothing.
+use mathlib.Core.Path.{subst}
+use native.Mathlib.Omega.{arith}
 use borrow.Author.Needs.{needs}
-use Rattle.capi.proofs.Settled.{listed-fits, counted-listed, counted-short, counted-refused}
+use Rattle.capi.proofs.Settled.{counted-listed, counted-short, counted-refused}
+use Rattle.capi.specs.Capi.{Fits}
 use Rattle.capi.proofs.answers.count.Statement.{statement}
 use Rattle.capi.proofs.answers.count.Tie as tie
 
@@ -9,10 +12,10 @@ enum-known-answer : tie.Need-enum-known-answer
 enum-known-answer c = search needs
 
 cast-n : tie.Need-cast-n
-cast-n c = record { fits = listed-fits _ _ _ (c .before .answer .given .1) (c .before .before .before .pre) .0 }
+cast-n c = omega (arith, subst Fits (c .before .answer .given .1) (c .before .before .before .pre))
 
 cast-t : tie.Need-cast-t
-cast-t c = record { fits = listed-fits _ _ _ (c .before .answer .given .1) (c .before .before .before .pre) .1 }
+cast-t c = omega (arith, subst Fits (c .before .answer .given .1) (c .before .before .before .pre))
 
 enum-told : tie.Need-enum-told
 enum-told c = search needs

@@ -1,7 +1,10 @@
 -- `capi::answers::put_needed` meets its contract.
 -- Assumes nothing.
+use mathlib.Core.Path.{subst}
+use native.Mathlib.Omega.{arith}
 use borrow.Author.Needs.{needs}
-use Rattle.capi.proofs.Settled.{short-fits, needed-short}
+use Rattle.capi.proofs.Settled.{needed-short}
+use Rattle.capi.specs.Capi.{Fits}
 use Rattle.capi.proofs.answers.put_needed.Statement.{statement}
 use Rattle.capi.proofs.answers.put_needed.Tie as tie
 
@@ -12,7 +15,7 @@ enum-known-answer : tie.Need-enum-known-answer
 enum-known-answer c = search needs
 
 cast-needed : tie.Need-cast-needed
-cast-needed c = record { fits = short-fits _ _ (c .before .answer .given .1) (c .before .before .before .pre) }
+cast-needed c = omega (arith, subst Fits (c .before .answer .given .1) (c .before .before .before .pre))
 
 enum-told-2 : tie.Need-enum-told-2
 enum-told-2 c = search needs
