@@ -1,19 +1,51 @@
 -- What a call of a script does, over plain values.
 -- Assumes nothing.
 use mathlib.Core.Path.{_≡_, refl, sym, ap, _∙_}
-use mathlib.Core.Bool.{Bool, true, false, not, _&&_}
-use mathlib.Core.List.{List}
-use Prim.Native.Nat.{ℕ, zero, suc, _+_, _-_, _≤_, _<_}
+use mathlib.Core.Bool.{Bool, true, false, cond, not, _&&_}
+use mathlib.Core.List.{List, [], _∷_, _++_}
+use Prim.Native.Nat.{ℕ, zero, suc, _+_, _-_, _*_, _≤_, _<_}
 use native.Mathlib.Numerals.{add-one}
 use native.Mathlib.Omega.{arith}
 use borrow.Author.Tests.{eq-eqb, ne-eqb}
 use lib.Dec.{eqb}
-use lib.ListN.{length, getD}
+use lib.ListN.{length, getD, take, drop, length-take, length-drop}
+use lib.Seq.{take-append-seam, length-take-le}
 use Rattle.map.specs.Map.{writableOf}
-use Rattle.text.specs.Text.{Puts}
-use Rattle.text.specs.TextLaws.{after-inside}
-use Rattle.replay.specs.declared.run.Reply.the-variants.{Same, Differs}
-use Rattle.replay.specs.Run.{differsAt, compareFrom}
+use Rattle.text.specs.Text.{Puts, placed, placeAfter}
+use Rattle.text.specs.TextLaws.{after-room, placed-room}
+use Rattle.map.specs.declared.refusals.Answer.{Answer}
+use Rattle.map.specs.declared.refusals.Answer.the-variants.{Accepted, Refused as AnswerRefused}
+use Rattle.map.specs.declared.refusals.Refusal.{Refusal}
+use Rattle.map.specs.Refusals.{openAnswer}
+use Rattle.host.specs.declared.Record.{Record}
+use Rattle.host.specs.declared.Changed.{Changed}
+use Rattle.host.specs.Record.{openOf}
+use Rattle.chip.specs.declared.Chip.{Chip}
+use Rattle.chip.specs.declared.Opened.{Opened}
+use Rattle.chip.specs.declared.Fed.{Fed}
+use Rattle.chip.specs.Chip.{atResetOf, feedOf}
+use Rattle.update.specs.declared.ListAnswer.{ListAnswer}
+use Rattle.update.specs.Update.{listNumber}
+use Rattle.faults.specs.declared.Answer as faults
+use Rattle.faults.specs.Faults.{faultsAnswer, faultsResult}
+use Rattle.history.specs.declared.Request.{Request}
+use Rattle.history.specs.declared.Request.the-variants.{Scene}
+use Rattle.history.specs.declared.Stepped.{Stepped}
+use Rattle.history.specs.declared.Ledger.{Ledger}
+use Rattle.history.specs.declared.CallAnswer.the-variants.{Setting, List as ListOf}
+use Rattle.history.specs.Step.{stepOf}
+use Rattle.history.specs.Ledger.{openedLedger, enteredOf}
+use Rattle.replay.specs.declared.command.Command.{Command}
+use Rattle.replay.specs.declared.command.ListCall.{ListCall}
+use Rattle.replay.specs.declared.run.Reply.{Reply}
+use Rattle.replay.specs.declared.run.Reply.the-variants.{Bad as BadReply, Number, Bytes, Same, Differs}
+use Rattle.replay.specs.declared.run.Session.{Session}
+use Rattle.replay.specs.declared.run.Called.{Called}
+use Rattle.replay.specs.declared.run.Ran.{Ran}
+use Rattle.replay.specs.Words.{lengthTo, firstWord, behind, wordAt}
+use Rattle.replay.specs.Bytes.{bytesOf}
+use Rattle.replay.specs.Run.{plainly, numbered, openedSession, openBy, withWorld, callOf, callNumber, plainCall, listCall, callReply, listRan, fedSession, feedRan, faultsReply, behindBack, differsAt, compareFrom, compared, ranBy, shownBy, runOf, shownOf}
+use Rattle.replay.specs.Commands.{commandOf}
 
 -- ---- `check`
 
@@ -52,9 +84,142 @@ compare-all m x y a h w =
     let none : 908 - a ≡ 0 = omega arith in
     sym (rw none refl) ∙ w
 
+-- ---- `open`
+
+pub opened-is : (m b p : ℕ) (x : Changed) (y : Opened) (s : Session) → x ≡ openOf m b p → y ≡ atResetOf m b p →
+    s ≡ record { world = record { state = x .state; chip = y .chip }; ledger = openedLedger m; valid = true } → s ≡ openedSession m b p
+unfolding openedSession
+opened-is m b p x y s ex ey e = e ∙ rw (ex, ey) refl
+
+pub open-accepted : (s t : Session) (m b p : ℕ) (a : Answer) (r : Ran) → a ≡ openAnswer m b p → a ≡ Accepted → t ≡ openedSession m b p → r ≡ numbered a t →
+    r ≡ openBy (openAnswer m b p) s m b p
+unfolding openBy
+open-accepted s t m b p a r ea et es e = e ∙ rw (es, ← ea, et) refl
+
+pub open-refused : (s : Session) (m b p : ℕ) (a : Answer) (x : Refusal) (r : Ran) → a ≡ openAnswer m b p → a ≡ AnswerRefused x → r ≡ numbered a s →
+    r ≡ openBy (openAnswer m b p) s m b p
+unfolding openBy
+open-refused s m b p a x r ea et e = e ∙ rw (← ea, et) refl
+
+-- ---- calls
+
+pub call-is : (s : Session) (q : Request) (lent : List ℕ) (g : Ledger) (x : Stepped) (r : Called) → g ≡ enteredOf (s .ledger) q lent → x ≡ stepOf (s .world) q lent →
+    r ≡ withWorld (record { world = s .world; ledger = g; valid = s .valid }) x → r ≡ callOf s q lent
+unfolding callOf
+call-is s q lent g x r eg ex e = e ∙ rw (eg, ex) refl
+
+pub plain-setting : (c : Called) (a : Answer) (r : Ran) → c .answer ≡ Setting a → r ≡ numbered a (c .session) → r ≡ plainCall c
+unfolding plainCall callNumber numbered
+plain-setting c a r ea e = e ∙ rw ea refl
+
+pub plain-list : (c : Called) (a : ListAnswer) (n : ℕ) (r : Ran) → c .answer ≡ ListOf a → n ≡ listNumber a →
+    r ≡ record { reply = Number n; room = 0; session = c .session } → r ≡ plainCall c
+unfolding plainCall callNumber plainly
+plain-list c a n r ea en e = e ∙ rw (ea, en) refl
+
+pub list-is : (s : Session) (k : ListCall) (room : ℕ) (lent : List ℕ) (c : Called) (y : Reply) → c ≡ listCall s k lent → y ≡ callReply k (c .answer) →
+    _≡_ {A = Ran} (record { reply = y; room = room; session = c .session }) (listRan k room (listCall s k lent))
+unfolding listRan
+list-is s k room lent c y ec ey = rw (ey, ec) refl
+
+pub feed-is : (s : Session) (bytes : List ℕ) (x : Fed) (r : Ran) → x ≡ feedOf (s .world .chip) bytes →
+    r ≡ numbered (x .answer) (record { world = record { state = s .world .state; chip = x .chip }; ledger = s .ledger; valid = s .valid }) → r ≡ feedRan s bytes
+unfolding feedRan fedSession
+feed-is s bytes x r ex e = e ∙ rw ex refl
+
+pub behind-is : (s : Session) (x y : Record) (c d : Chip) (r : Ran) → x ≡ y → c ≡ d → r ≡ behindBack s x c → r ≡ behindBack s y d
+behind-is s x y c d r ex ec e = e ∙ rw (ex, ec) refl
+
+pub compared-void : (s : Session) → s .valid ≡ false → BadReply ≡ compared s
+unfolding compared
+compared-void s v = rw v refl
+
+pub compared-valid : (s : Session) (r : Reply) → s .valid ≡ true → r ≡ compareFrom (s .ledger .member) (s .world .chip .registers) (s .ledger .bytes) 0 908 → r ≡ compared s
+unfolding compared
+compared-valid s r v e = rw v e
+
+-- ---- buffers
+
+-- the front of a buffer whose front was written
+pub front : (x b : List ℕ) (n : ℕ) → length x ≡ n → take n (x ++ b) ≡ x
+front x b n e = rw (← e) (take-append-seam x b)
+
+-- a byte string that has room stands whole at the front
+pub decoded : (old bytes new : List ℕ) (r : ℕ) → length bytes ≤ length old → Puts old 0 bytes new r → (r ≡ length bytes) × (take r new ≡ bytes)
+decoded old bytes new r h p =
+    let whole : placeAfter (length old) 0 bytes ≡ 0 + length bytes = after-room (length old) 0 bytes (omega arith) in
+    let place : r ≡ length bytes = p .place ∙ whole ∙ omega arith in
+    let none : 0 + length bytes ≡ length bytes = omega arith in
+    (place, rw (place, p .buffer) (rw none at (placed-room old 0 bytes (omega arith))))
+
+pairs-length : (k : ℕ) (w : List ℕ) → length w ≤ k → 2 * length (bytesOf w) ≤ length w
+unfolding bytesOf
+pairs-length k [] h = omega arith
+pairs-length k (x ∷ []) h = omega arith
+pairs-length (suc k) (x ∷ (y ∷ w)) h = let rest = pairs-length k w (omega arith) in omega (arith, rest)
+pairs-length zero (x ∷ (y ∷ w)) h = absurd (omega arith)
+
+pub bytes-room : (w old : List ℕ) → length w ≤ 8192 → length old ≡ 4096 → length (bytesOf w) ≤ length old
+bytes-room w old h e = let most = pairs-length (length w) w (omega arith) in omega (arith, most)
+
+word-least : (n : ℕ) (l : List ℕ) → length (wordAt l n) ≤ length l
+unfolding wordAt firstWord behind
+word-least zero l = omega (arith, length-take (lengthTo 0x20 l) l)
+word-least (suc n) l = let rest = word-least n (drop (suc (lengthTo 0x20 l)) l) in omega (arith, rest, length-drop (suc (lengthTo 0x20 l)) l)
+
+pub word-room : (l w : List ℕ) (n : ℕ) → length l ≤ 8192 → w ≡ wordAt l n → length w ≤ 8192
+word-room l w n h e = let most = word-least n l in omega (arith, most, ap length e)
+
+pub scene-is : (s : Session) (old w new : List ℕ) (n : ℕ) (c : Called) (r : Ran) → length w ≤ 8192 → length old ≡ 4096 → Puts old 0 (bytesOf w) new n →
+    c ≡ callOf s Scene (take n new) → r ≡ plainCall c → r ≡ plainCall (callOf s Scene (bytesOf w))
+scene-is s old w new n c r hw ho p ec e = e ∙ ap plainCall (ec ∙ ap (callOf s Scene) (decoded old (bytesOf w) new n (bytes-room w old hw ho) p .1))
+
+pub fed-bytes : (s : Session) (old w new : List ℕ) (n : ℕ) (x : Fed) (r : Ran) → length w ≤ 8192 → length old ≡ 4096 → Puts old 0 (bytesOf w) new n →
+    x ≡ feedOf (s .world .chip) (take n new) →
+    r ≡ numbered (x .answer) (record { world = record { state = s .world .state; chip = x .chip }; ledger = s .ledger; valid = s .valid }) → r ≡ feedRan s (bytesOf w)
+fed-bytes s old w new n x r hw ho p ex e =
+    feed-is s (bytesOf w) x r (ex ∙ ap (feedOf (s .world .chip)) (decoded old (bytesOf w) new n (bytes-room w old hw ho) p .1)) e
+
+pub list-shown : (x old : List ℕ) (n : ℕ) (y : List ℕ) → n ≤ 4096 → length old ≡ 4096 → length x ≡ length (take n old) → x ≡ y → take n (x ++ drop n old) ≡ y
+list-shown x old n y hn ho e ey = front x (drop n old) n (e ∙ length-take-le n old (omega arith)) ∙ ey
+
+pub faults-shown : (m : ℕ) (zeros w new old x : List ℕ) (k n : ℕ) (a : faults.Answer) (y : Reply) (s : Session) →
+    length w ≤ 8192 → length zeros ≡ 4096 → Puts zeros 0 (bytesOf w) new k → n ≤ 4096 → length old ≡ 4096 → length x ≡ length (take n old) →
+    a ≡ faultsAnswer m (take k new) (take n old) → x ≡ faultsResult m (take k new) (take n old) → y ≡ faultsReply a →
+    (_≡_ {A = Ran} (record { reply = y; room = n; session = s })
+    (record { reply = faultsReply (faultsAnswer m (bytesOf w) (take n old)); room = n; session = s }))
+    × (take n (x ++ drop n old) ≡ faultsResult m (bytesOf w) (take n old))
+faults-shown m zeros w new old x k n a y s hw hz p hn ho ex ea er ey =
+    let given = decoded zeros (bytesOf w) new k (bytes-room w zeros hw hz) p .1 in
+    (rw (ey, ea, given) refl, list-shown x old n (faultsResult m (bytesOf w) (take n old)) hn ho ex (er ∙ ap (λ (g : List ℕ). faultsResult m g (take n old)) given))
+
+-- the line so far is no longer than its buffer
+pub piece-room : (l : List ℕ) (n : ℕ) → n ≤ length l → length l ≤ 8192 → length (take n l) ≤ 8192
+piece-room l n h m = let size = length-take-le n l h in omega (arith, size)
+
 -- ---- `settings`, `image`, `chip`
 
-pub shown-room : (old : List ℕ) (bytes new : List ℕ) (r : ℕ) → length old ≡ 4096 → Puts old 0 bytes new r → r ≤ 4096
-shown-room old bytes new r h p =
-    let inside = after-inside (length old) 0 bytes (omega arith) in
-    omega (arith, inside, p .place)
+pub shown-is : (old bytes new : List ℕ) (r : ℕ) (s : Session) → length bytes ≤ 4096 → length old ≡ 4096 → Puts old 0 bytes new r →
+    (_≡_ {A = Ran} (record { reply = Bytes; room = r; session = s }) (record { reply = Bytes; room = length bytes; session = s })) × ((take (length bytes) new ≡ bytes) × (r ≤ 4096))
+shown-is old bytes new r s h e p =
+    let d = decoded old bytes new r (omega arith) p in
+    (rw (d .0) refl, (rw (d .0) at (d .1), omega (arith, d .0)))
+
+-- ---- a line: e is the buffer after it
+
+pub open-room : (a : Answer) (s : Session) (m b p : ℕ) → openBy a s m b p .room ≡ 0
+unfolding openBy numbered plainly
+open-room Accepted s m b p = refl
+open-room (AnswerRefused x) s m b p = refl
+
+pub ran-none : (s : Session) (l b e : List ℕ) (c : Command) (r : Ran) → c ≡ commandOf l → r ≡ ranBy s c l b → shownBy s c l b ≡ [] → r .room ≡ 0 →
+    (r ≡ runOf s l b) × ((take (r .room) e ≡ shownOf s l b) × (r .room ≤ 4096))
+unfolding runOf shownOf
+ran-none s l b e c r ec er es z =
+    (er ∙ ap (λ (x : Command). ranBy s x l b) ec, (rw z (sym es ∙ ap (λ (x : Command). shownBy s x l b) ec), omega (arith, z)))
+
+pub ran-shown : (s : Session) (l b e : List ℕ) (c : Command) (r : Ran) (n : ℕ) → c ≡ commandOf l → r ≡ ranBy s c l b → r .room ≡ n → n ≤ 4096 →
+    take n e ≡ shownBy s c l b → (r ≡ runOf s l b) × ((take (r .room) e ≡ shownOf s l b) × (r .room ≤ 4096))
+unfolding runOf shownOf
+ran-shown s l b e c r n ec er en h es =
+    (er ∙ ap (λ (x : Command). ranBy s x l b) ec, (rw en (es ∙ ap (λ (x : Command). shownBy s x l b) ec), omega (arith, en)))

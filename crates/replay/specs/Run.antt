@@ -1,13 +1,167 @@
--- A call of a script, and all that it changes: the table's middle column.
+-- A call of a script, and all that it changes: the table's middle column. s is the session, that is the record and the chip that the
+-- script plays on with their ledger; l the line, b the buffer, of which the first n bytes are lent.
 -- Assumes nothing.
-use mathlib.Core.Bool.{Bool, true, false, not, _&&_}
-use mathlib.Core.List.{List}
+use mathlib.Core.Bool.{Bool, true, false, cond, not, _&&_}
+use mathlib.Core.List.{List, [], _++_}
 use Prim.Native.Nat.{ℕ, zero, suc}
 use lib.Dec.{eqb}
-use lib.ListN.{getD}
+use lib.ListN.{length, getD, take, drop, set}
 use Rattle.map.specs.Map.{writableOf}
+use Rattle.map.specs.Refusals.{answerNumber, openAnswer}
+use Rattle.map.specs.declared.refusals.Answer as answers
+use Rattle.host.specs.declared.Record.{Record}
+use Rattle.host.specs.Record.{openOf}
+use Rattle.chip.specs.declared.Chip.{Chip}
+use Rattle.chip.specs.Chip.{atResetOf, feedOf}
+use Rattle.update.specs.declared.ListAnswer as list
+use Rattle.update.specs.Update.{listNumber, clearOpensBuffer, clearShortsBuffer}
+use Rattle.faults.specs.declared.Answer as faults
+use Rattle.faults.specs.Faults.{answerNumbers, faultsAnswer, faultsResult}
+use Rattle.history.specs.declared.World.{World}
+use Rattle.history.specs.declared.Stepped.{Stepped}
+use Rattle.history.specs.declared.Request.{Request}
+use Rattle.history.specs.declared.Request.the-variants as requests
+use Rattle.history.specs.declared.CallAnswer as calls
+use Rattle.history.specs.Step.{stepOf, lentAfter, clearOpensStep, clearShortsStep}
+use Rattle.history.specs.Ledger.{openedLedger, enteredOf}
+use Rattle.replay.specs.Words.{wordAt}
+use Rattle.replay.specs.Bytes.{bytesOf}
+use Rattle.replay.specs.Commands.{commandOf}
+use Rattle.replay.specs.declared.keywords.Part as parts
+use Rattle.replay.specs.declared.keywords.Entry as entries
+use Rattle.replay.specs.declared.command.ListCall as lists
+use Rattle.replay.specs.declared.command.Command as commands
 use Rattle.replay.specs.declared.run.Reply.{Reply}
-use Rattle.replay.specs.declared.run.Reply.the-variants.{Same, Differs}
+use Rattle.replay.specs.declared.run.Reply.the-variants.{Bad, Number, Listed, Short, Refused, Bytes, Same, Differs}
+use Rattle.replay.specs.declared.run.Session.{Session}
+use Rattle.replay.specs.declared.run.Called.{Called}
+use Rattle.replay.specs.declared.run.Ran.{Ran}
+
+-- a call that shows no buffer
+unfoldable pub plainly : Reply → Session → Ran
+plainly reply s = record { reply = reply; room = 0; session = s }
+
+-- "`0` or number"
+unfoldable pub numbered : answers.Answer → Session → Ran
+numbered answer s = plainly (Number (answerNumber answer)) s
+
+-- ---- `open`
+
+-- "the host record is the new one and the chip model is at reset values of that member, bus, pins"
+unfoldable pub openedSession : ℕ → ℕ → ℕ → Session
+openedSession m b p = record {
+  world = record { state = openOf m b p .state; chip = atResetOf m b p .chip };
+  ledger = openedLedger m;
+  valid = true;
+}
+
+-- "on acceptance .. a refusal leaves the script's record and chip as they were"
+unfoldable pub openBy : answers.Answer → Session → ℕ → ℕ → ℕ → Ran
+openBy answers.the-variants.Accepted s m b p = numbered answers.the-variants.Accepted (openedSession m b p)
+openBy (answers.the-variants.Refused r) s m b p = numbered (answers.the-variants.Refused r) s
+
+-- ---- Calls on the record, whose lists are fed at once
+
+unfoldable pub withWorld : Session → Stepped → Called
+withWorld s x = record { answer = x .answer; session = record { world = x .world; ledger = s .ledger; valid = s .valid } }
+
+-- one call of the list of demand 3; the ledger gets it whatever it is answered
+unfoldable pub callOf : Session → Request → List ℕ → Called
+callOf s q lent = withWorld (record { world = s .world; ledger = enteredOf (s .ledger) q lent; valid = s .valid }) (stepOf (s .world) q lent)
+
+-- the number of an answer
+unfoldable pub callNumber : calls.CallAnswer → ℕ
+callNumber (calls.the-variants.Setting answer) = answerNumber answer
+callNumber (calls.the-variants.List answer) = listNumber answer
+
+-- a setting or Power lost
+unfoldable pub plainCall : Called → Ran
+plainCall x = plainly (Number (callNumber (x .answer))) (x .session)
+
+-- `update L`, `reset L`, `clearopens L`, `clearshorts L`
+unfoldable pub listCall : Session → lists.ListCall → List ℕ → Called
+listCall s lists.the-variants.Update lent = callOf s requests.Update lent
+listCall s lists.the-variants.Reset lent = callOf s requests.Reset lent
+listCall s lists.the-variants.ClearOpens lent = withWorld s (clearOpensStep (s .world) lent)
+listCall s lists.the-variants.ClearShorts lent = withWorld s (clearShortsStep (s .world) lent)
+
+-- the buffer after it
+unfoldable pub listLent : World → lists.ListCall → List ℕ → List ℕ
+listLent w lists.the-variants.Update lent = lentAfter w requests.Update lent
+listLent w lists.the-variants.Reset lent = lentAfter w requests.Reset lent
+listLent w lists.the-variants.ClearOpens lent = clearOpensBuffer (w .state) lent
+listLent w lists.the-variants.ClearShorts lent = clearShortsBuffer (w .state) lent
+
+-- "`10 NEEDED BUFFER`" of an Update, "`10 BUFFER`" of the others
+unfoldable pub shortReply : lists.ListCall → ℕ → ℕ → Reply
+shortReply lists.the-variants.Update needed n = Short needed
+shortReply lists.the-variants.Reset needed n = Refused n
+shortReply lists.the-variants.ClearOpens needed n = Refused n
+shortReply lists.the-variants.ClearShorts needed n = Refused n
+
+-- "`0 n t BUFFER`, or `10 NEEDED BUFFER`, or `14 BUFFER`"
+unfoldable pub listReply : lists.ListCall → list.ListAnswer → Reply
+listReply k (list.the-variants.Listed n t) = Listed n t
+listReply k (list.the-variants.Short needed) = shortReply k needed (listNumber (list.the-variants.Short needed))
+listReply k (list.the-variants.Refused r) = Refused (listNumber (list.the-variants.Refused r))
+
+unfoldable pub callReply : lists.ListCall → calls.CallAnswer → Reply
+callReply k (calls.the-variants.Setting answer) = Number (answerNumber answer)
+callReply k (calls.the-variants.List answer) = listReply k answer
+
+unfoldable pub listRan : lists.ListCall → ℕ → Called → Ran
+listRan k n x = record { reply = callReply k (x .answer); room = n; session = x .session }
+
+-- ---- `feed`, `faults`
+
+-- "the bytes are fed to the chip model only"
+unfoldable pub fedSession : Session → Chip → Session
+fedSession s c = record { world = record { state = s .world .state; chip = c }; ledger = s .ledger; valid = s .valid }
+
+unfoldable pub feedRan : Session → List ℕ → Ran
+feedRan s bytes = numbered (feedOf (s .world .chip) bytes .answer) (fedSession s (feedOf (s .world .chip) bytes .chip))
+
+-- "`0 O S BUFFER` (O, S: 1 if 064h bit 1, bit 0 agrees, else 0), or `N BUFFER`"
+unfoldable pub agreesDigit : Bool → ℕ
+agreesDigit agrees = cond agrees 1 0
+
+unfoldable pub faultsReply : faults.Answer → Reply
+faultsReply (faults.the-variants.Read opens shorts) = Listed (agreesDigit opens) (agreesDigit shorts)
+faultsReply (faults.the-variants.Refused r) = Refused (getD (answerNumbers (faults.the-variants.Refused r)) 0 0)
+
+-- ---- `settings`, `image`, `chip`
+
+unfoldable pub partBytes : Session → parts.Part → List ℕ
+partBytes s parts.the-variants.Settings = s .world .state .settings
+partBytes s parts.the-variants.Image = s .world .state .image
+partBytes s parts.the-variants.Chip = s .world .chip .registers
+
+-- ---- `poke`, `header`: "behind the calls' back"
+
+unfoldable pub pokedRecord : Record → parts.Part → ℕ → ℕ → Record
+pokedRecord r parts.the-variants.Settings a v = record { member = r .member; bus = r .bus; pins = r .pins; settings = set (r .settings) a v; image = r .image }
+pokedRecord r parts.the-variants.Image a v = record { member = r .member; bus = r .bus; pins = r .pins; settings = r .settings; image = set (r .image) a v }
+pokedRecord r parts.the-variants.Chip a v = r
+
+unfoldable pub pokedChip : Chip → parts.Part → ℕ → ℕ → Chip
+pokedChip c parts.the-variants.Settings a v = c
+pokedChip c parts.the-variants.Image a v = c
+pokedChip c parts.the-variants.Chip a v = record { member = c .member; bus = c .bus; pins = c .pins; registers = set (c .registers) a v }
+
+-- "puts V (decimal, at most 255, else `?`) into the record and into the chip"
+unfoldable pub headedRecord : Record → entries.Entry → ℕ → Record
+headedRecord r entries.the-variants.Member v = record { member = v; bus = r .bus; pins = r .pins; settings = r .settings; image = r .image }
+headedRecord r entries.the-variants.Bus v = record { member = r .member; bus = v; pins = r .pins; settings = r .settings; image = r .image }
+headedRecord r entries.the-variants.Pins v = record { member = r .member; bus = r .bus; pins = v; settings = r .settings; image = r .image }
+
+unfoldable pub headedChip : Chip → entries.Entry → ℕ → Chip
+headedChip c entries.the-variants.Member v = record { member = v; bus = c .bus; pins = c .pins; registers = c .registers }
+headedChip c entries.the-variants.Bus v = record { member = c .member; bus = v; pins = c .pins; registers = c .registers }
+headedChip c entries.the-variants.Pins v = record { member = c .member; bus = c .bus; pins = v; registers = c .registers }
+
+-- "`poke` and `header` void the ledger"
+unfoldable pub behindBack : Session → Record → Chip → Ran
+behindBack s r c = numbered answers.the-variants.Accepted (record { world = record { state = r; chip = c }; ledger = s .ledger; valid = false })
 
 -- ---- `check`
 
@@ -20,3 +174,45 @@ unfoldable pub compareFrom : ℕ → List ℕ → List ℕ → ℕ → ℕ → R
 compareFrom m registers ledger a zero = Same
 compareFrom m registers ledger a (suc n) =
     elim (differsAt m a (getD registers a 0) (getD ledger a 0)) [ true ↦ Differs a | false ↦ compareFrom m registers ledger (suc a) n ]
+
+-- "`check` then prints `?` until the next accepted `open`"
+unfoldable pub compared : Session → Reply
+compared s = cond (s .valid) (compareFrom (s .ledger .member) (s .world .chip .registers) (s .ledger .bytes) 0 908) Bad
+
+-- ---- A line
+
+-- what a line answers, and the session after it
+unfoldable pub ranBy : Session → commands.Command → List ℕ → List ℕ → Ran
+ranBy s commands.the-variants.Bad l b = plainly Bad s
+ranBy s (commands.the-variants.Open m bus p) l b = openBy (openAnswer m bus p) s m bus p
+ranBy s (commands.the-variants.Setting q) l b = plainCall (callOf s q b)
+ranBy s commands.the-variants.Scene l b = plainCall (callOf s requests.Scene (bytesOf (wordAt l 1)))
+ranBy s (commands.the-variants.List k n) l b = listRan k n (listCall s k (take n b))
+ranBy s commands.the-variants.Power l b = plainCall (callOf s requests.PowerLost b)
+ranBy s commands.the-variants.Feed l b = feedRan s (bytesOf (wordAt l 1))
+ranBy s (commands.the-variants.Faults m n) l b = record { reply = faultsReply (faultsAnswer m (bytesOf (wordAt l 2)) (take n b)); room = n; session = s }
+ranBy s (commands.the-variants.Show p) l b = record { reply = Bytes; room = length (partBytes s p); session = s }
+ranBy s (commands.the-variants.Poke p a v) l b = behindBack s (pokedRecord (s .world .state) p a v) (pokedChip (s .world .chip) p a v)
+ranBy s (commands.the-variants.Header e v) l b = behindBack s (headedRecord (s .world .state) e v) (headedChip (s .world .chip) e v)
+ranBy s commands.the-variants.Check l b = plainly (compared s) s
+
+-- "after the call ALL its L bytes are printed": the bytes that are shown
+unfoldable pub shownBy : Session → commands.Command → List ℕ → List ℕ → List ℕ
+shownBy s commands.the-variants.Bad l b = []
+shownBy s (commands.the-variants.Open m bus p) l b = []
+shownBy s (commands.the-variants.Setting q) l b = []
+shownBy s commands.the-variants.Scene l b = []
+shownBy s (commands.the-variants.List k n) l b = listLent (s .world) k (take n b)
+shownBy s commands.the-variants.Power l b = []
+shownBy s commands.the-variants.Feed l b = []
+shownBy s (commands.the-variants.Faults m n) l b = faultsResult m (bytesOf (wordAt l 2)) (take n b)
+shownBy s (commands.the-variants.Show p) l b = partBytes s p
+shownBy s (commands.the-variants.Poke p a v) l b = []
+shownBy s (commands.the-variants.Header e v) l b = []
+shownBy s commands.the-variants.Check l b = []
+
+unfoldable pub runOf : Session → List ℕ → List ℕ → Ran
+runOf s l b = ranBy s (commandOf l) l b
+
+unfoldable pub shownOf : Session → List ℕ → List ℕ → List ℕ
+shownOf s l b = shownBy s (commandOf l) l b

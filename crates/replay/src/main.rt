@@ -54,7 +54,9 @@ fn flushed(text: &[u8], at: usize, full: usize) -> usize {
 }
 
 // A line that is a call or not: what it prints goes to the text.
-fn play(mut player: Player, line: &[u8], text: &mut [u8]) -> Player {
+fn play(mut player: Player, line: &[u8], text: &mut [u8]) -> Player
+    requires { ⌜ length (now line) ≤ 8192 ⌝ }
+{
     let mut buffer = [0xA5u8; run::ROOM];
     let session = player.session;
     let ran = run::run(session, line, &mut buffer);
@@ -75,7 +77,9 @@ fn play_long(mut player: Player, text: &mut [u8]) -> Player {
 }
 
 // The line, where it is over.
-fn line_ended(mut player: Player, over: bool, line: &[u8], text: &mut [u8]) -> Player {
+fn line_ended(mut player: Player, over: bool, line: &[u8], text: &mut [u8]) -> Player
+    requires { ⌜ length (now line) ≤ 8192 ⌝ }
+{
     if !over {
         return player;
     }
@@ -100,7 +104,7 @@ fn lengthened(line: &mut [u8], length: usize, bytes: &[u8]) -> usize {
 }
 
 fn play_block(mut player: Player, block: &[u8], line: &mut [u8], text: &mut [u8]) -> Player
-    requires { ⌜ length (now block) ≤ 65536 ⌝ }
+    requires { ⌜ (length (now block) ≤ 65536) × (length (now line) ≤ 8192) ⌝ }
 {
     let mut from = 0;
     while from < block.len() {
@@ -118,7 +122,9 @@ struct Turn {
     got: isize,
 }
 
-fn play_some(turn: Turn, line: &mut [u8], text: &mut [u8]) -> Turn {
+fn play_some(turn: Turn, line: &mut [u8], text: &mut [u8]) -> Turn
+    requires { ⌜ length (now line) ≤ 8192 ⌝ }
+{
     let mut block = io::large_buffer();
     let got = libc::read(libc::STDIN_FILENO, &mut block);
     let n = io::count(got, &block);
@@ -133,7 +139,9 @@ fn play_some(turn: Turn, line: &mut [u8], text: &mut [u8]) -> Turn {
 
 // A proved loop has to end, and nothing says that the input does. So the loop counts its turns down, from a number that no run
 // uses up.
-fn play_all(line: &mut [u8], text: &mut [u8]) -> Player {
+fn play_all(line: &mut [u8], text: &mut [u8]) -> Player
+    requires { ⌜ length (now line) ≤ 8192 ⌝ }
+{
     let player = new_player();
     let mut turn = Turn {
         player: player,

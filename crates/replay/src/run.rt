@@ -1,8 +1,14 @@
 // A command on the script's record and chip.
 ghost use mathlib.Core.Path.{_≡_};
 ghost use Prim.Native.Nat.{_≤_, _<_};
-ghost use lib.ListN.{length};
-ghost use Rattle.replay.specs.Run.{differsAt, compareFrom};
+ghost use mathlib.Core.Bool.{true};
+ghost use lib.ListN.{length, take};
+ghost use Rattle.map.specs.Refusals.{openAnswer};
+ghost use Rattle.faults.specs.Faults.{faultsAnswer, faultsResult};
+ghost use Rattle.history.specs.Step.{lentAfter};
+ghost use Rattle.history.specs.Ledger.{openedLedger};
+ghost use Rattle.replay.specs.Bytes.{bytesOf};
+ghost use Rattle.replay.specs.Run.{numbered, openedSession, openBy, withWorld, callOf, plainCall, listCall, listLent, shortReply, listReply, callReply, listRan, feedRan, agreesDigit, faultsReply, partBytes, pokedRecord, pokedChip, headedRecord, headedChip, behindBack, differsAt, compareFrom, compared, plainly, runOf, shownOf};
 use crate::bytes;
 use crate::command;
 use crate::command::Command;
@@ -58,7 +64,9 @@ pub(crate) struct Ran {
     pub(crate) session: Session,
 }
 
-fn new_session(state: Record, chip: Chip, member: usize) -> Session {
+fn new_session(state: Record, chip: Chip, member: usize) -> Session
+    ensures { λ r. ⌜ r ≡ record { world = record { state = state; chip = chip }; ledger = openedLedger member; valid = true } ⌝ }
+{
     let world = World {
         state: state,
         chip: chip,
@@ -71,7 +79,9 @@ fn new_session(state: Record, chip: Chip, member: usize) -> Session {
     }
 }
 
-fn opened(member: usize, bus: usize, pins: usize) -> Session {
+fn opened(member: usize, bus: usize, pins: usize) -> Session
+    ensures { λ r. ⌜ r ≡ openedSession member bus pins ⌝ }
+{
     let changed = host::open(member, bus, pins);
     let state = changed.state;
     let given = chip::at_reset(member, bus, pins);
@@ -80,12 +90,14 @@ fn opened(member: usize, bus: usize, pins: usize) -> Session {
 }
 
 // Before the first accepted `open`.
-pub(crate) fn start() -> Session {
+pub(crate) fn start() -> Session
+    ensures { λ r. ⌜ r ≡ openedSession 0 0 0 ⌝ }
+{
     opened(0, 0, 0)
 }
 
 fn number(answer: Answer, session: Session) -> Ran
-    ensures { λ r. ⌜ r .room ≤ 4096 ⌝ }
+    ensures { λ r. ⌜ r ≡ numbered answer session ⌝ }
 {
     Ran {
         reply: Reply::Number(map::answer_number(answer)),
@@ -95,7 +107,7 @@ fn number(answer: Answer, session: Session) -> Ran
 }
 
 fn open(session: Session, member: usize, bus: usize, pins: usize) -> Ran
-    ensures { λ r. ⌜ r .room ≤ 4096 ⌝ }
+    ensures { λ r. ⌜ r ≡ openBy (openAnswer member bus pins) session member bus pins ⌝ }
 {
     let answer = map::open_answer(member, bus, pins);
     match answer {
@@ -110,7 +122,9 @@ struct Called {
     session: Session,
 }
 
-fn with_world(mut session: Session, stepped: Stepped) -> Called {
+fn with_world(mut session: Session, stepped: Stepped) -> Called
+    ensures { λ r. ⌜ r ≡ withWorld session stepped ⌝ }
+{
     let answer = stepped.answer;
     let world = stepped.world;
     session.world = world;
@@ -120,7 +134,10 @@ fn with_world(mut session: Session, stepped: Stepped) -> Called {
     }
 }
 
-fn call(mut session: Session, request: Request, lent: &mut [u8]) -> Called {
+fn call(mut session: Session, request: Request, lent: &mut [u8]) -> Called
+    ensures { λ r. ⌜ r ≡ callOf session request (now (lent .entry)) ⌝ }
+    ensures { λ _. ⌜ now (lent .exit) ≡ lentAfter (session .world) request (now (lent .entry)) ⌝ }
+{
     let ledger = session.ledger;
     let ledger = history::enter(ledger, request, lent);
     session.ledger = ledger;
@@ -130,7 +147,7 @@ fn call(mut session: Session, request: Request, lent: &mut [u8]) -> Called {
 
 // The reply to a setting or to Power lost.
 fn plain(called: Called) -> Ran
-    ensures { λ r. ⌜ r .room ≤ 4096 ⌝ }
+    ensures { λ r. ⌜ r ≡ plainCall called ⌝ }
 {
     let answer = called.answer;
     let session = called.session;
@@ -145,13 +162,17 @@ fn plain(called: Called) -> Ran
 }
 
 fn scene(session: Session, word: &[u8], buffer: &mut [u8]) -> Ran
-    ensures { λ r. ⌜ r .room ≤ 4096 ⌝ }
+    requires { ⌜ (length (now word) ≤ 8192) × (length (now buffer) ≡ 4096) ⌝ }
+    ensures { λ r. ⌜ r ≡ plainCall (callOf session Request.Scene (bytesOf (now (word .entry)))) ⌝ }
 {
     let n = bytes::decode(word, buffer);
     plain(call(session, Request::Scene, &mut buffer[..n]))
 }
 
-fn list_called(session: Session, kind: ListCall, lent: &mut [u8]) -> Called {
+fn list_called(session: Session, kind: ListCall, lent: &mut [u8]) -> Called
+    ensures { λ r. ⌜ r ≡ listCall session kind (now (lent .entry)) ⌝ }
+    ensures { λ _. ⌜ now (lent .exit) ≡ listLent (session .world) kind (now (lent .entry)) ⌝ }
+{
     let world = session.world;
     match kind {
         ListCall::Update => call(session, Request::Update, lent),
@@ -162,7 +183,9 @@ fn list_called(session: Session, kind: ListCall, lent: &mut [u8]) -> Called {
 }
 
 // Only Update says how many bytes it needs.
-fn short_reply(kind: ListCall, needed: usize, number: u8) -> Reply {
+fn short_reply(kind: ListCall, needed: usize, number: u8) -> Reply
+    ensures { λ r. ⌜ r ≡ shortReply kind needed number ⌝ }
+{
     match kind {
         ListCall::Update => Reply::Short(needed),
         ListCall::Reset => Reply::Refused(number),
@@ -171,7 +194,9 @@ fn short_reply(kind: ListCall, needed: usize, number: u8) -> Reply {
     }
 }
 
-fn list_reply(kind: ListCall, answer: ListAnswer) -> Reply {
+fn list_reply(kind: ListCall, answer: ListAnswer) -> Reply
+    ensures { λ r. ⌜ r ≡ listReply kind answer ⌝ }
+{
     let number = update::list_number(answer);
     match answer {
         ListAnswer::Listed { n, t } => Reply::Listed(n, t),
@@ -180,7 +205,9 @@ fn list_reply(kind: ListCall, answer: ListAnswer) -> Reply {
     }
 }
 
-fn reply_of(kind: ListCall, answer: CallAnswer) -> Reply {
+fn reply_of(kind: ListCall, answer: CallAnswer) -> Reply
+    ensures { λ r. ⌜ r ≡ callReply kind answer ⌝ }
+{
     match answer {
         CallAnswer::Setting(answer) => Reply::Number(map::answer_number(answer)),
         CallAnswer::List(answer) => list_reply(kind, answer),
@@ -189,7 +216,8 @@ fn reply_of(kind: ListCall, answer: CallAnswer) -> Reply {
 
 fn list(session: Session, kind: ListCall, room: usize, buffer: &mut [u8]) -> Ran
     requires { ⌜ (room ≤ 4096) × (length (now buffer) ≡ 4096) ⌝ }
-    ensures { λ r. ⌜ r .room ≤ 4096 ⌝ }
+    ensures { λ r. ⌜ r ≡ listRan kind room (listCall session kind (take room (now (buffer .entry)))) ⌝ }
+    ensures { λ _. ⌜ take room (now (buffer .exit)) ≡ listLent (session .world) kind (take room (now (buffer .entry))) ⌝ }
 {
     let called = list_called(session, kind, &mut buffer[..room]);
     let answer = called.answer;
@@ -202,7 +230,8 @@ fn list(session: Session, kind: ListCall, room: usize, buffer: &mut [u8]) -> Ran
 }
 
 fn feed(mut session: Session, word: &[u8], buffer: &mut [u8]) -> Ran
-    ensures { λ r. ⌜ r .room ≤ 4096 ⌝ }
+    requires { ⌜ (length (now word) ≤ 8192) × (length (now buffer) ≡ 4096) ⌝ }
+    ensures { λ r. ⌜ r ≡ feedRan session (bytesOf (now (word .entry))) ⌝ }
 {
     let n = bytes::decode(word, buffer);
     let mut world = session.world;
@@ -215,12 +244,16 @@ fn feed(mut session: Session, word: &[u8], buffer: &mut [u8]) -> Ran
     number(answer, session)
 }
 
-// 1 for yes.
-fn digit(yes: bool) -> usize {
-    if yes { 1 } else { 0 }
+// 1 where 064h agrees.
+fn digit(agrees: bool) -> usize
+    ensures { λ r. ⌜ r ≡ agreesDigit agrees ⌝ }
+{
+    if agrees { 1 } else { 0 }
 }
 
-fn faults_reply(answer: faults::Answer) -> Reply {
+fn faults_reply(answer: faults::Answer) -> Reply
+    ensures { λ r. ⌜ r ≡ faultsReply answer ⌝ }
+{
     let number = faults::answer_number(answer);
     match answer {
         faults::Answer::Read {
@@ -233,8 +266,9 @@ fn faults_reply(answer: faults::Answer) -> Reply {
 
 // The byte string goes to the buffer `given`, the result to the one that is shown.
 fn faults(session: Session, member: usize, word: &[u8], room: usize, buffer: &mut [u8]) -> Ran
-    requires { ⌜ (room ≤ 4096) × (length (now buffer) ≡ 4096) ⌝ }
-    ensures { λ r. ⌜ r .room ≤ 4096 ⌝ }
+    requires { ⌜ (length (now word) ≤ 8192) × (room ≤ 4096) × (length (now buffer) ≡ 4096) ⌝ }
+    ensures { λ r. ⌜ r ≡ record { reply = faultsReply (faultsAnswer member (bytesOf (now (word .entry))) (take room (now (buffer .entry)))); room = room; session = session } ⌝ }
+    ensures { λ _. ⌜ take room (now (buffer .exit)) ≡ faultsResult member (bytesOf (now (word .entry))) (take room (now (buffer .entry))) ⌝ }
 {
     let mut given = io::buffer();
     let n = bytes::decode(word, &mut given);
@@ -248,7 +282,9 @@ fn faults(session: Session, member: usize, word: &[u8], room: usize, buffer: &mu
 
 // The bytes are shown from the buffer.
 fn shown(session: Session, bytes: &[u8], buffer: &mut [u8]) -> Ran
-    requires { ⌜ length (now buffer) ≡ 4096 ⌝ }
+    requires { ⌜ (length (now bytes) ≤ 4096) × (length (now buffer) ≡ 4096) ⌝ }
+    ensures { λ r. ⌜ r ≡ record { reply = Reply.Bytes; room = length (now (bytes .entry)); session = session } ⌝ }
+    ensures { λ _. ⌜ take (length (now (bytes .entry))) (now (buffer .exit)) ≡ now (bytes .entry) ⌝ }
     ensures { λ r. ⌜ r .room ≤ 4096 ⌝ }
 {
     let room = text::put_text(buffer, 0, bytes);
@@ -261,6 +297,8 @@ fn shown(session: Session, bytes: &[u8], buffer: &mut [u8]) -> Ran
 
 fn show(session: Session, part: Part, buffer: &mut [u8]) -> Ran
     requires { ⌜ length (now buffer) ≡ 4096 ⌝ }
+    ensures { λ r. ⌜ r ≡ record { reply = Reply.Bytes; room = length (partBytes session part); session = session } ⌝ }
+    ensures { λ _. ⌜ take (length (partBytes session part)) (now (buffer .exit)) ≡ partBytes session part ⌝ }
     ensures { λ r. ⌜ r .room ≤ 4096 ⌝ }
 {
     let world = session.world;
@@ -275,6 +313,7 @@ fn show(session: Session, part: Part, buffer: &mut [u8]) -> Ran
 
 fn poked_record(mut state: Record, part: Part, address: usize, value: u8) -> Record
     requires { ⌜ address < 908 ⌝ }
+    ensures { λ r. ⌜ r ≡ pokedRecord state part address value ⌝ }
 {
     match part {
         Part::Settings => state.settings[address] = value,
@@ -286,6 +325,7 @@ fn poked_record(mut state: Record, part: Part, address: usize, value: u8) -> Rec
 
 fn poked_chip(mut chip: Chip, part: Part, address: usize, value: u8) -> Chip
     requires { ⌜ address < 908 ⌝ }
+    ensures { λ r. ⌜ r ≡ pokedChip chip part address value ⌝ }
 {
     match part {
         Part::Settings => {}
@@ -297,7 +337,7 @@ fn poked_chip(mut chip: Chip, part: Part, address: usize, value: u8) -> Chip
 
 // What is put behind the calls' back: the ledger says nothing any more.
 fn put_behind(session: Session, state: Record, chip: Chip) -> Ran
-    ensures { λ r. ⌜ r .room ≤ 4096 ⌝ }
+    ensures { λ r. ⌜ r ≡ behindBack session state chip ⌝ }
 {
     let world = World {
         state: state,
@@ -314,7 +354,7 @@ fn put_behind(session: Session, state: Record, chip: Chip) -> Ran
 
 fn poke(session: Session, part: Part, address: usize, value: u8) -> Ran
     requires { ⌜ address < 908 ⌝ }
-    ensures { λ r. ⌜ r .room ≤ 4096 ⌝ }
+    ensures { λ r. ⌜ r ≡ behindBack session (pokedRecord (session .world .state) part address value) (pokedChip (session .world .chip) part address value) ⌝ }
 {
     let world = session.world;
     let state = world.state;
@@ -326,7 +366,9 @@ fn poke(session: Session, part: Part, address: usize, value: u8) -> Ran
     )
 }
 
-fn headed_record(mut state: Record, entry: Entry, value: u8) -> Record {
+fn headed_record(mut state: Record, entry: Entry, value: u8) -> Record
+    ensures { λ r. ⌜ r ≡ headedRecord state entry value ⌝ }
+{
     match entry {
         Entry::Member => state.member = value,
         Entry::Bus => state.bus = value,
@@ -335,7 +377,9 @@ fn headed_record(mut state: Record, entry: Entry, value: u8) -> Record {
     state
 }
 
-fn headed_chip(mut chip: Chip, entry: Entry, value: u8) -> Chip {
+fn headed_chip(mut chip: Chip, entry: Entry, value: u8) -> Chip
+    ensures { λ r. ⌜ r ≡ headedChip chip entry value ⌝ }
+{
     match entry {
         Entry::Member => chip.member = value,
         Entry::Bus => chip.bus = value,
@@ -345,7 +389,7 @@ fn headed_chip(mut chip: Chip, entry: Entry, value: u8) -> Chip {
 }
 
 fn header(session: Session, entry: Entry, value: u8) -> Ran
-    ensures { λ r. ⌜ r .room ≤ 4096 ⌝ }
+    ensures { λ r. ⌜ r ≡ behindBack session (headedRecord (session .world .state) entry value) (headedChip (session .world .chip) entry value) ⌝ }
 {
     let world = session.world;
     let state = world.state;
@@ -379,7 +423,9 @@ fn difference<'a>(member: usize, registers: &'a [u8; 908], ledger: &'a [u8; 908]
     Reply::Same
 }
 
-fn compared(session: Session) -> Reply {
+fn compared(session: Session) -> Reply
+    ensures { λ r. ⌜ r ≡ compared session ⌝ }
+{
     if !session.valid {
         return Reply::Bad;
     }
@@ -391,7 +437,7 @@ fn compared(session: Session) -> Reply {
 }
 
 fn without_buffer(reply: Reply, session: Session) -> Ran
-    ensures { λ r. ⌜ r .room ≤ 4096 ⌝ }
+    ensures { λ r. ⌜ r ≡ plainly reply session ⌝ }
 {
     Ran {
         reply: reply,
@@ -402,7 +448,9 @@ fn without_buffer(reply: Reply, session: Session) -> Ran
 
 // The call of a line, and all that it changes.
 pub(crate) fn run(session: Session, line: &[u8], buffer: &mut [u8]) -> Ran
-    requires { ⌜ length (now buffer) ≡ 4096 ⌝ }
+    requires { ⌜ (length (now line) ≤ 8192) × (length (now buffer) ≡ 4096) ⌝ }
+    ensures { λ r. ⌜ r ≡ runOf session (now (line .entry)) (now (buffer .entry)) ⌝ }
+    ensures { λ r. ⌜ take (r .room) (now (buffer .exit)) ≡ shownOf session (now (line .entry)) (now (buffer .entry)) ⌝ }
     ensures { λ r. ⌜ r .room ≤ 4096 ⌝ }
 {
     let command = command::read(line);

@@ -1,5 +1,6 @@
 -- `replay::line_ended` meets its contract.
 -- Assumes nothing.
+use Rattle.replay.proofs.Playing.{piece-room}
 use lib.Seq.{length-take-le}
 use mathlib.Core.Path.{sym}
 use borrow.Author.Needs.{needs}
@@ -13,7 +14,7 @@ slice-aggregate-play : tie.Need-slice-aggregate-play
 slice-aggregate-play c = sym (length-take-le _ _ (c .before .if2 .taken))
 
 play-requires : tie.Need-play-requires
-play-requires c κs = search needs
+play-requires c κs = piece-room _ _ (c .before .before .if2 .taken) (c .before .before .before .before .before .before .pre)
 
 play-long-requires : tie.Need-play-long-requires
 play-long-requires c κs = search needs

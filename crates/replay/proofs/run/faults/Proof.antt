@@ -1,8 +1,9 @@
 -- `replay::run::faults` meets its contract.
 -- Assumes nothing.
 use native.Mathlib.Omega.{arith}
-use lib.Seq.{length-take-le}
 use mathlib.Core.Path.{sym}
+use lib.Seq.{length-take-le}
+use Rattle.replay.proofs.Playing.{faults-shown}
 use borrow.Author.Needs.{needs}
 use Rattle.replay.proofs.run.faults.Statement.{statement}
 use Rattle.replay.proofs.run.faults.Tie as tie
@@ -38,7 +39,8 @@ same-length : tie.Need-same-length
 same-length c = search needs
 
 returns : tie.Need-returns
-returns c = search needs
+returns c = faults-shown _ _ _ _ _ _ _ _ _ _ _ (c .before .before .before .before .before .before .before .before .before .before .before .before .pre .0) (sym (c .before .before .before .before .before .before .before .before .before .buffer .ensures)) (c .before .before .before .before .before .before .before .decode .ensures .0) (c .before .before .before .before .before .before .before .before .before .before .before .before .pre .1) (c .before .before .before .before .before .before .before .before .before .before .before .before .pre .2) (c .before .before .before .faults .kept .1 .1 .0)
+    (c .before .before .before .faults .ensures .0) (c .before .before .before .faults .ensures .1) (c .faults-reply .ensures)
 
 pub faults-spec : {M : Type 1} → statement M
 faults-spec =

@@ -1,8 +1,10 @@
 -- `replay::run::list` meets its contract.
 -- Assumes nothing.
+use Rattle.replay.proofs.Playing.{list-shown}
 use native.Mathlib.Omega.{arith}
+use Rattle.replay.proofs.Playing.{list-is, front}
+use mathlib.Core.Path.{sym, _∙_}
 use lib.Seq.{length-take-le}
-use mathlib.Core.Path.{sym}
 use borrow.Author.Needs.{needs}
 use Rattle.replay.proofs.run.list.Statement.{statement}
 use Rattle.replay.proofs.run.list.Tie as tie
@@ -23,7 +25,7 @@ same-length : tie.Need-same-length
 same-length c = search needs
 
 returns : tie.Need-returns
-returns c = search needs
+returns c = (list-is _ _ _ _ _ _ (c .before .before .before .before .list-called .ensures .0) (c .reply-of .ensures), list-shown _ _ _ _ (c .before .before .before .before .before .before .before .pre .0) (c .before .before .before .before .before .before .before .pre .1) (c .before .before .before .before .list-called .kept .1 .1 .0) (c .before .before .before .before .list-called .ensures .1))
 
 pub list-spec : {M : Type 1} → statement M
 list-spec =

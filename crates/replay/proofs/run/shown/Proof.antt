@@ -1,6 +1,7 @@
 -- `replay::run::shown` meets its contract.
 -- Assumes nothing.
-use Rattle.replay.proofs.Playing.{shown-room}
+use mathlib.Core.Path.{refl}
+use Rattle.replay.proofs.Playing.{shown-is}
 use borrow.Author.Needs.{needs}
 use Rattle.replay.proofs.run.shown.Statement.{statement}
 use Rattle.replay.proofs.run.shown.Tie as tie
@@ -12,7 +13,7 @@ same-length : tie.Need-same-length
 same-length c = search needs
 
 returns : tie.Need-returns
-returns c = shown-room _ _ _ _ (c .before .before .before .before .before .before .pre) (c .before .before .put-text .ensures)
+returns c = shown-is _ _ _ _ _ (c .before .before .before .before .before .before .pre .0) (c .before .before .before .before .before .before .pre .1) (c .before .before .put-text .ensures)
 
 pub shown-spec : {M : Type 1} → statement M
 shown-spec = tie.close (tie.spec put-text-requires same-length returns)
