@@ -1,3 +1,1 @@
-mod Reading
-mod Judging
 mod Playing

@@ -35,17 +35,17 @@ use Rattle.history.specs.declared.Ledger.{Ledger}
 use Rattle.history.specs.declared.CallAnswer.the-variants.{Setting, List as ListOf}
 use Rattle.history.specs.Step.{stepOf}
 use Rattle.history.specs.Ledger.{openedLedger, enteredOf}
-use Rattle.replay.specs.declared.command.Command.{Command}
-use Rattle.replay.specs.declared.command.ListCall.{ListCall}
+use Rattle.script.specs.declared.command.Command.{Command}
+use Rattle.script.specs.declared.command.ListCall.{ListCall}
 use Rattle.replay.specs.declared.run.Reply.{Reply}
 use Rattle.replay.specs.declared.run.Reply.the-variants.{Bad as BadReply, Number, Bytes, Same, Differs}
 use Rattle.replay.specs.declared.run.Session.{Session}
 use Rattle.replay.specs.declared.run.Called.{Called}
 use Rattle.replay.specs.declared.run.Ran.{Ran}
-use Rattle.replay.specs.Words.{lengthTo, firstWord, behind, wordAt}
-use Rattle.replay.specs.Bytes.{bytesOf}
+use Rattle.script.specs.Words.{lengthTo, firstWord, behind, wordAt}
+use Rattle.script.specs.Bytes.{bytesOf}
 use Rattle.replay.specs.Run.{plainly, numbered, openedSession, openBy, withWorld, callOf, callNumber, plainCall, listCall, callReply, listRan, fedSession, feedRan, faultsReply, behindBack, differsAt, compareFrom, compared, ranBy, shownBy, runOf, shownOf}
-use Rattle.replay.specs.Commands.{commandOf}
+use Rattle.script.specs.Commands.{commandOf}
 
 -- ---- `check`
 

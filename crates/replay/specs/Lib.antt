@@ -1,7 +1,2 @@
-pub mod Words
-pub mod Numbers
-pub mod Bytes
-pub mod Keywords
-pub mod Commands
 pub mod Replies
 pub mod Run

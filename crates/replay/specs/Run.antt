@@ -24,13 +24,13 @@ use Rattle.history.specs.declared.Request.the-variants as requests
 use Rattle.history.specs.declared.CallAnswer as calls
 use Rattle.history.specs.Step.{stepOf, lentAfter, clearOpensStep, clearShortsStep}
 use Rattle.history.specs.Ledger.{openedLedger, enteredOf}
-use Rattle.replay.specs.Words.{wordAt}
-use Rattle.replay.specs.Bytes.{bytesOf}
-use Rattle.replay.specs.Commands.{commandOf}
-use Rattle.replay.specs.declared.keywords.Part as parts
-use Rattle.replay.specs.declared.keywords.Entry as entries
-use Rattle.replay.specs.declared.command.ListCall as lists
-use Rattle.replay.specs.declared.command.Command as commands
+use Rattle.script.specs.Words.{wordAt}
+use Rattle.script.specs.Bytes.{bytesOf}
+use Rattle.script.specs.Commands.{commandOf}
+use Rattle.script.specs.declared.keywords.Part as parts
+use Rattle.script.specs.declared.keywords.Entry as entries
+use Rattle.script.specs.declared.command.ListCall as lists
+use Rattle.script.specs.declared.command.Command as commands
 use Rattle.replay.specs.declared.run.Reply.{Reply}
 use Rattle.replay.specs.declared.run.Reply.the-variants.{Bad, Number, Listed, Short, Refused, Bytes, Same, Differs}
 use Rattle.replay.specs.declared.run.Session.{Session}

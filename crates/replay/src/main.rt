@@ -3,13 +3,8 @@
 //
 // The script has any length. It is read in blocks; the line that is not over yet is carried from block to block in a buffer of
 // its own, and what is to be written waits in a third until the block is played or the buffer is nearly full.
-mod bytes;
-mod command;
-mod keywords;
-mod numbers;
 mod print;
 mod run;
-mod words;
 
 ghost use Prim.Native.Nat.{_≤_};
 ghost use lib.ListN.{length};
@@ -103,12 +98,20 @@ fn lengthened(line: &mut [u8], length: usize, bytes: &[u8]) -> usize {
     text::put_text(line, length, bytes)
 }
 
+// Where the line that starts here ends: at its LF, or with the block.
+fn line_end(block: &[u8], from: usize) -> usize
+    requires { ⌜ from ≤ length (now block) ⌝ }
+    ensures { λ r. ⌜ (from ≤ r) × (r ≤ length (now (block .entry))) ⌝ }
+{
+    from + script::line_length(&block[from..])
+}
+
 fn play_block(mut player: Player, block: &[u8], line: &mut [u8], text: &mut [u8]) -> Player
     requires { ⌜ (length (now block) ≤ 65536) × (length (now line) ≤ 8192) ⌝ }
 {
     let mut from = 0;
     while from < block.len() {
-        let to = words::end(block, from, b'\n');
+        let to = line_end(block, from);
         player.length = lengthened(line, player.length, &block[from..to]);
         player = line_ended(player, to < block.len(), line, text);
         from = to + 1;

@@ -7,15 +7,8 @@ ghost use Rattle.map.specs.Refusals.{openAnswer};
 ghost use Rattle.faults.specs.Faults.{faultsAnswer, faultsResult};
 ghost use Rattle.history.specs.Step.{lentAfter};
 ghost use Rattle.history.specs.Ledger.{openedLedger};
-ghost use Rattle.replay.specs.Bytes.{bytesOf};
+ghost use Rattle.script.specs.Bytes.{bytesOf};
 ghost use Rattle.replay.specs.Run.{numbered, openedSession, openBy, withWorld, callOf, plainCall, listCall, listLent, shortReply, listReply, callReply, listRan, feedRan, agreesDigit, faultsReply, partBytes, pokedRecord, pokedChip, headedRecord, headedChip, behindBack, differsAt, compareFrom, compared, plainly, runOf, shownOf};
-use crate::bytes;
-use crate::command;
-use crate::command::Command;
-use crate::command::ListCall;
-use crate::keywords::Entry;
-use crate::keywords::Part;
-use crate::words;
 use chip::Chip;
 use history::CallAnswer;
 use history::Ledger;
@@ -24,6 +17,10 @@ use history::Stepped;
 use history::World;
 use host::Record;
 use map::Answer;
+use script::Command;
+use script::Entry;
+use script::ListCall;
+use script::Part;
 use update::ListAnswer;
 
 // The longest buffer that is lent. It holds the byte string of any line too.
@@ -165,7 +162,7 @@ fn scene(session: Session, word: &[u8], buffer: &mut [u8]) -> Ran
     requires { ⌜ (length (now word) ≤ 8192) × (length (now buffer) ≡ 4096) ⌝ }
     ensures { λ r. ⌜ r ≡ plainCall (callOf session Request.Scene (bytesOf (now (word .entry)))) ⌝ }
 {
-    let n = bytes::decode(word, buffer);
+    let n = script::decode(word, buffer);
     plain(call(session, Request::Scene, &mut buffer[..n]))
 }
 
@@ -233,7 +230,7 @@ fn feed(mut session: Session, word: &[u8], buffer: &mut [u8]) -> Ran
     requires { ⌜ (length (now word) ≤ 8192) × (length (now buffer) ≡ 4096) ⌝ }
     ensures { λ r. ⌜ r ≡ feedRan session (bytesOf (now (word .entry))) ⌝ }
 {
-    let n = bytes::decode(word, buffer);
+    let n = script::decode(word, buffer);
     let mut world = session.world;
     let chip = world.chip;
     let fed = chip::feed(chip, &buffer[..n]);
@@ -271,7 +268,7 @@ fn faults(session: Session, member: usize, word: &[u8], room: usize, buffer: &mu
     ensures { λ _. ⌜ take room (now (buffer .exit)) ≡ faultsResult member (bytesOf (now (word .entry))) (take room (now (buffer .entry))) ⌝ }
 {
     let mut given = io::buffer();
-    let n = bytes::decode(word, &mut given);
+    let n = script::decode(word, &mut given);
     let answer = faults::faults(member, &given[..n], &mut buffer[..room]);
     Ran {
         reply: faults_reply(answer),
@@ -453,19 +450,19 @@ pub(crate) fn run(session: Session, line: &[u8], buffer: &mut [u8]) -> Ran
     ensures { λ r. ⌜ take (r .room) (now (buffer .exit)) ≡ shownOf session (now (line .entry)) (now (buffer .entry)) ⌝ }
     ensures { λ r. ⌜ r .room ≤ 4096 ⌝ }
 {
-    let command = command::read(line);
+    let command = script::read(line);
     match command {
         Command::Bad => without_buffer(Reply::Bad, session),
         Command::Open { member, bus, pins } => open(session, member, bus, pins),
         Command::Setting(request) => plain(call(session, request, buffer)),
-        Command::Scene => scene(session, words::word(line, 1), buffer),
+        Command::Scene => scene(session, script::word(line, 1), buffer),
         Command::List(kind, room) => list(session, kind, room, buffer),
         Command::Power => plain(call(session, Request::PowerLost, buffer)),
-        Command::Feed => feed(session, words::word(line, 1), buffer),
+        Command::Feed => feed(session, script::word(line, 1), buffer),
         Command::Faults(member, room) => faults(
             session,
             member,
-            words::word(line, 2),
+            script::word(line, 2),
             room,
             buffer,
         ),

@@ -16,8 +16,8 @@ abbrev μ-loop : tie.MeasureT-loop
 loop-holds : tie.Need-loop-holds Inv-loop μ-loop
 loop-holds c = search needs
 
-end-requires : tie.Need-end-requires Inv-loop μ-loop
-end-requires c κs = search needs
+line-end-requires : tie.Need-line-end-requires Inv-loop μ-loop
+line-end-requires c κs = search needs
 
 sub-lengthened : tie.Need-sub-lengthened Inv-loop μ-loop
 sub-lengthened c = search needs
@@ -59,7 +59,7 @@ play-block-spec =
     Inv-loop
     μ-loop
     loop-holds
-    end-requires
+    line-end-requires
     sub-lengthened
     part-lengthened-start
     part-lengthened-end

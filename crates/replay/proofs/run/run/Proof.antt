@@ -7,7 +7,7 @@ use Rattle.replay.specs.declared.run.Ran.{Ran}
 use mathlib.Core.Path.{refl, ap, sym, subst, _∙_}
 use Rattle.replay.specs.Run.{plainly, numbered, callOf, plainCall, listRan, feedRan, faultsReply, behindBack, ranBy, shownBy}
 use Rattle.replay.proofs.Playing.{open-room, ran-none, ran-shown, word-room}
-use Rattle.replay.proofs.Judging.{list-room, faults-room, poke-address}
+use Rattle.script.specs.CommandLaws.{list-room, faults-room, poke-address}
 use borrow.Author.Needs.{needs}
 use Rattle.replay.proofs.run.run.Statement.{statement}
 use Rattle.replay.proofs.run.run.Tie as tie

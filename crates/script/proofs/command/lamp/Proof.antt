@@ -1,0 +1,24 @@
+-- `script::command::lamp` meets its contract.
+-- Assumes nothing.
+use mathlib.Core.Path.{refl}
+use Rattle.script.specs.Commands.{lampOf}
+use borrow.Author.Needs.{needs}
+use Rattle.script.proofs.command.lamp.Statement.{statement}
+use Rattle.script.proofs.command.lamp.Tie as tie
+
+enum-known-words : tie.Need-enum-known-words
+enum-known-words c = search needs
+
+enum-told : tie.Need-enum-told
+enum-told c = search needs
+
+returns : tie.Need-returns
+unfolding lampOf
+returns c = rw (c .before .words .given .1) refl
+
+returns-2 : tie.Need-returns-2
+unfolding lampOf
+returns-2 c = rw (c .enum-told .given .1) refl
+
+pub lamp-spec : {M : Type 1} → statement M
+lamp-spec = tie.close (tie.spec enum-known-words enum-told returns returns-2)

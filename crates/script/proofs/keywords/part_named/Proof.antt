@@ -1,0 +1,67 @@
+-- `script::keywords::part_named` meets its contract.
+-- Assumes nothing.
+use mathlib.Core.Path.{refl, sym, _∙_}
+use Rattle.script.specs.Keywords.{partOf}
+use borrow.Author.Needs.{needs}
+use Rattle.script.proofs.keywords.part_named.Statement.{statement}
+use Rattle.script.proofs.keywords.part_named.Tie as tie
+
+slice-aggregate-same : tie.Need-slice-aggregate-same
+slice-aggregate-same c = search needs
+
+same-requires : tie.Need-same-requires
+same-requires c κs = search needs
+
+returns : tie.Need-returns
+unfolding partOf
+returns c = rw (sym (c .before .same .ensures) ∙ c .if1 .taken) refl
+
+slice-aggregate-same-2 : tie.Need-slice-aggregate-same-2
+slice-aggregate-same-2 c = search needs
+
+same-requires-2 : tie.Need-same-requires-2
+same-requires-2 c κs = search needs
+
+returns-2 : tie.Need-returns-2
+unfolding partOf
+returns-2 c = rw (
+  sym (c .before .before .before .before .same .ensures) ∙ c .before .before .before .if1 .left,
+  sym (c .before .same2 .ensures) ∙ c .if2 .taken,
+) refl
+
+slice-aggregate-same-3 : tie.Need-slice-aggregate-same-3
+slice-aggregate-same-3 c = search needs
+
+same-requires-3 : tie.Need-same-requires-3
+same-requires-3 c κs = search needs
+
+returns-3 : tie.Need-returns-3
+unfolding partOf
+returns-3 c = rw (
+  sym (c .before .before .before .before .before .before .before .same .ensures) ∙ c .before .before .before .before .before .before .if1 .left,
+  sym (c .before .before .before .before .same2 .ensures) ∙ c .before .before .before .if2 .left,
+  sym (c .before .same3 .ensures) ∙ c .if3 .taken,
+) refl
+
+returns-4 : tie.Need-returns-4
+unfolding partOf
+returns-4 c = rw (
+  sym (c .before .before .before .before .before .before .before .same .ensures) ∙ c .before .before .before .before .before .before .if1 .left,
+  sym (c .before .before .before .before .same2 .ensures) ∙ c .before .before .before .if2 .left,
+  sym (c .before .same3 .ensures) ∙ c .if3 .left,
+) refl
+
+pub part-named-spec : {M : Type 1} → statement M
+part-named-spec =
+    tie.close
+    (tie.spec
+    slice-aggregate-same
+    same-requires
+    returns
+    slice-aggregate-same-2
+    same-requires-2
+    returns-2
+    slice-aggregate-same-3
+    same-requires-3
+    returns-3
+    returns-4)
