@@ -151,10 +151,10 @@ pub low-reset : (m a v : ℕ) (reset : Bool) (new : List ℕ) → reset ≡ isCo
 low-reset m a v reset new e t q = (rw (sym e ∙ t) refl, q)
 
 module _ (m a v : ℕ) (on reset : Bool) (old : List ℕ) where
-  pub low-deaf : (h : Bool) → reset ≡ isCommand 0x0A9 0xFF a v → reset ≡ false → h ≡ heard on a → not h ≡ true →
+  pub low-unheard : (h : Bool) → reset ≡ isCommand 0x0A9 0xFF a v → reset ≡ false → h ≡ heard on a → not h ≡ true →
       (true ≡ not (isCommand 0x0A9 0xFF a v)) × (old ≡ hearByte m on a v old)
   unfolding hearByte
-  low-deaf h e f d n = (rw (sym e ∙ f) refl, rw (sym d ∙ not-true h n) refl)
+  low-unheard h e f d n = (rw (sym e ∙ f) refl, rw (sym d ∙ not-true h n) refl)
 
   pub low-heard : (h : Bool) (new : List ℕ) → a < 0x100 → reset ≡ isCommand 0x0A9 0xFF a v → reset ≡ false → h ≡ heard on a → not h ≡ false →
       new ≡ heardByte m a v old → (true ≡ not (isCommand 0x0A9 0xFF a v)) × (new ≡ hearByte m on a v old)
@@ -177,9 +177,9 @@ unfolding hearByte
 past-byte m a v on rs h = rw (lt-leb a 0x38B h, and-false (heard on a)) refl
 
 -- and in standby none is heard
-deaf-byte : (m a v : ℕ) (rs : List ℕ) → 0x100 ≤ a → hearByte m false a v rs ≡ rs
+unheard-byte : (m a v : ℕ) (rs : List ℕ) → 0x100 ≤ a → hearByte m false a v rs ≡ rs
 unfolding hearByte heard
-deaf-byte m a v rs h = rw (ne-eqb a 0x000 (λ e. omega arith), ne-eqb a 0x0A9 (λ e. omega arith)) refl
+unheard-byte m a v rs h = rw (ne-eqb a 0x000 (λ e. omega arith), ne-eqb a 0x0A9 (λ e. omega arith)) refl
 
 pub data-past : (m a : ℕ) (on : Bool) (vs rs : List ℕ) → 0x38B < a → hearData m on a vs rs ≡ rs
 data-past m a on [] rs h = data-none m on a rs
@@ -188,10 +188,10 @@ data-past m a on (v ∷ vs) rs h =
     ∙ data-past m (suc a) on vs (hearByte m on a v rs) (omega arith)
     ∙ past-byte m a v on rs h
 
-pub data-deaf : (m a : ℕ) (vs rs : List ℕ) → 0x100 ≤ a → hearData m false a vs rs ≡ rs
-data-deaf m a [] rs h = data-none m false a rs
-data-deaf m a (v ∷ vs) rs h =
-    data-next m false a v vs rs (no-reset a v h) ∙ data-deaf m (suc a) vs (hearByte m false a v rs) (omega arith) ∙ deaf-byte m a v rs h
+pub data-unheard : (m a : ℕ) (vs rs : List ℕ) → 0x100 ≤ a → hearData m false a vs rs ≡ rs
+data-unheard m a [] rs h = data-none m false a rs
+data-unheard m a (v ∷ vs) rs h =
+    data-next m false a v vs rs (no-reset a v h) ∙ data-unheard m (suc a) vs (hearByte m false a v rs) (omega arith) ∙ unheard-byte m a v rs h
 
 -- ---- the loops over data bytes
 
@@ -255,9 +255,9 @@ module _ (m : ℕ) (on : Bool) (start : ℕ) (bytes old rs : List ℕ) (i : ℕ)
   pub heard-past : 0x38B < start + i → rs ≡ hearData m on start bytes old
   heard-past l = sym (data-past m (start + i) on (drop i bytes) rs l) ∙ h .same
 
-  pub heard-deaf : on ≡ false → 0x100 ≤ start + i → rs ≡ hearData m on start bytes old
-  heard-deaf e l =
-      sym (data-deaf m (start + i) (drop i bytes) rs l)
+  pub heard-unheard : on ≡ false → 0x100 ≤ start + i → rs ≡ hearData m on start bytes old
+  heard-unheard e l =
+      sym (data-unheard m (start + i) (drop i bytes) rs l)
       ∙ ap (λ (b : Bool). hearData m b (start + i) (drop i bytes) rs) (sym e)
       ∙ h .same
 

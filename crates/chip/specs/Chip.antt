@@ -76,6 +76,7 @@ heard on a = on || (eqb a 0x000 || eqb a 0x0A9)
 unfoldable pub merged : ℕ → ℕ → ℕ → ℕ
 merged mask old v = bitOr (bitAnd old mask) (bitAnd v (255 - mask))
 
+-- a data byte at its address, but for the bits that keep their values
 unfoldable pub putByte : ℕ → ℕ → ℕ → List ℕ → List ℕ
 putByte m a v rs = set rs a (merged (reservedOf m a) (getD rs a 0) v)
 
@@ -114,6 +115,7 @@ hearData m on a (v ∷ vs) rs =
 unfoldable pub hear : ℕ → List ℕ → Burst → List ℕ
 hear m rs b = hearData m (isOn rs) (b .start) (b .bytes) rs
 
+-- "Each transaction is a write to this chip or passes by"
 abbrev pub byTransaction : ℕ → List ℕ → Transaction → List ℕ → List ℕ
 byTransaction m rs (Write a) bytes = hear m rs (record { start = a; bytes = bytes })
 byTransaction m rs PassesBy bytes = rs
@@ -124,6 +126,7 @@ apply m bus pins rs x = byTransaction m rs (decodeOf bus pins (getD x 0 0) (getD
 
 -- ---- Feed
 
+-- "then the n transactions back to back": each after the one before it
 unfoldable pub applyAll : ℕ → ℕ → ℕ → List ℕ → List (List ℕ) → List ℕ
 applyAll m bus pins rs [] = rs
 applyAll m bus pins rs (x ∷ xs) = applyAll m bus pins (apply m bus pins rs x) xs

@@ -78,9 +78,9 @@ either P false x y h k = k
 pub byte-keeps : (m : ℕ) (P : List ℕ → Type 0) (on : Bool) (a v : ℕ) (rs : List ℕ) → P (putByte m a v rs) → P (clearOpens rs) → P (clearShorts rs) → P rs →
     P (hearByte m on a v rs)
 unfolding hearByte heardByte
-byte-keeps m P on a v rs put opens shorts h =
+byte-keeps m P on a v rs put no-opens no-shorts h =
     either P (heard on a && leb a 0x38B) _ rs
-    (either P (isCommand 0x0A7 0x0F a v) (clearOpens rs) _ opens (either P (isCommand 0x0A8 0x0F a v) (clearShorts rs) (putByte m a v rs) shorts put)) h
+    (either P (isCommand 0x0A7 0x0F a v) (clearOpens rs) _ no-opens (either P (isCommand 0x0A8 0x0F a v) (clearShorts rs) (putByte m a v rs) no-shorts put)) h
 
 -- ---- 908 registers
 

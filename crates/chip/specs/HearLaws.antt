@@ -105,10 +105,10 @@ byte-here m on a v rs p s l h =
     ∙ getD-set-same rs a (merged (reservedOf m a) (getD rs a 0) v) 0 (omega arith)
 
 -- in standby
-deaf-byte : (m a v k : ℕ) (rs : List ℕ) → (k ≡ 0x000 → ⊥) → (k ≡ 0x0A9 → ⊥) → isCommand 0x0A9 0xFF a v ≡ false →
+unheard-byte : (m a v k : ℕ) (rs : List ℕ) → (k ≡ 0x000 → ⊥) → (k ≡ 0x0A9 → ⊥) → isCommand 0x0A9 0xFF a v ≡ false →
     getD (hearByte m false a v rs) k 0 ≡ getD rs k 0
 unfolding hearByte heard
-deaf-byte m a v k rs n0 n9 e = go (ℕ-discrete a 0x000) (ℕ-discrete a 0x0A9)
+unheard-byte m a v k rs n0 n9 e = go (ℕ-discrete a 0x000) (ℕ-discrete a 0x0A9)
   where
     plain : (command : ℕ) → (a ≡ 0x000) ⊎ (a ≡ 0x0A9) → 0x0A6 < command → command < 0x0A9 → isCommand command 0x0F a v ≡ false
     plain command (inl q) l h = not-command command 0x0F a v (λ z. omega arith)
@@ -153,7 +153,7 @@ data-standby m a [] rs p k n0 n9 = ap (λ (x : List ℕ). getD x k 0) (data-none
 data-standby m a (v ∷ vs) rs p k n0 n9 =
     ap (λ (x : List ℕ). getD x k 0) (data-next m false a v vs rs (p .0))
     ∙ data-standby m (suc a) vs (hearByte m false a v rs) (p .1) k n0 n9
-    ∙ deaf-byte m a v k rs n0 n9 (p .0)
+    ∙ unheard-byte m a v k rs n0 n9 (p .0)
 
 pub data-here : (m : ℕ) (on : Bool) (a : ℕ) (vs rs : List ℕ) → AllPlain a vs → length rs ≡ 908 → (i : ℕ) → i < length vs → a + i < 908 → heard on (a + i) ≡ true →
     getD (hearData m on a vs rs) (a + i) 0 ≡ merged (reservedOf m (a + i)) (getD rs (a + i) 0) (getD vs i 0)

@@ -68,6 +68,7 @@ unfoldable pub someBelow : (ℕ → Bool) → ℕ → Bool
 someBelow f zero = false
 someBelow f (suc n) = f n || someBelow f n
 
+-- an existing dot is open, or short: the bits of a dot that the member has not count for nothing
 unfoldable pub isFaulty : Field → ℕ → List ℕ → ℕ → Bool
 isFaulty f m bytes d = hasDot m d && isSet f bytes d
 
@@ -90,10 +91,12 @@ unfoldable pub answerNumbers : Answer → List ℕ
 answerNumbers (Read opens shorts) = 0 ∷ cond opens 1 0 ∷ cond shorts 1 0 ∷ []
 answerNumbers (Refused r) = refusalNumber r ∷ []
 
+-- what the checks refuse is refused; else the two answers about 064h
 unfoldable pub answered : checks.Answer → Bool → Bool → Answer
 answered checks.the-variants.Accepted opens shorts = Read opens shorts
 answered (checks.the-variants.Refused r) opens shorts = Refused r
 
+-- "The answer says whether 064h bit 1 equals "some existing dot is open" and bit 0 the same for short."
 unfoldable pub faultsAnswer : ℕ → List ℕ → List ℕ → Answer
 faultsAnswer m bytes result = answered (faultsChecked m (length bytes) (length result)) (opensAgree m bytes) (shortsAgree m bytes)
 

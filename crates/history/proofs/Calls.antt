@@ -18,7 +18,7 @@ use Rattle.history.specs.declared.World.{World}
 use Rattle.history.specs.declared.Request.{Request}
 use Rattle.history.specs.declared.Stepped.{Stepped}
 use Rattle.history.specs.declared.Ledger.{Ledger}
-use Rattle.history.specs.Step.{settled, stepOf, lentAfter}
+use Rattle.history.specs.Step.{settingStep, stepOf, lentAfter}
 use Rattle.history.specs.Ledger.{entry, openedLedger, enteredOf}
 
 -- ---- steps
@@ -27,8 +27,8 @@ pub step-is : (w : World) (request x : Request) (lent new : List ℕ) (s : Stepp
     (s ≡ stepOf w request lent) × (new ≡ lentAfter w request lent)
 step-is w request x lent new s e t l = rw e (t, l)
 
-pub settled-is : (s : Stepped) (x y : Changed) (c d : Chip) → s ≡ settled x c → x ≡ y → c ≡ d → s ≡ settled y d
-settled-is s x y c d e u v = e ∙ ap₂ settled u v
+pub setting-step-is : (s : Stepped) (x y : Changed) (c d : Chip) → s ≡ settingStep x c → x ≡ y → c ≡ d → s ≡ settingStep y d
+setting-step-is s x y c d e u v = e ∙ ap₂ settingStep u v
 
 -- ---- the ledger
 

@@ -21,7 +21,7 @@ use Rattle.chip.specs.declared.Fed.{Fed}
 use Rattle.chip.specs.Chip.{feedOf}
 use Rattle.history.specs.declared.CallAnswer as answers
 use Rattle.history.specs.declared.Stepped.{Stepped}
-use Rattle.history.specs.Step.{Within, listIn, fedBy, listed}
+use Rattle.history.specs.Step.{Within, listIn, fedBy, listStep}
 
 -- ---- room
 
@@ -70,8 +70,8 @@ pub fed-listed : (answer : ListAnswer) (n t : ℕ) (buffer : List ℕ) (c : Chip
 fed-listed answer n t buffer c fed e f = rw (e, f) refl
 
 pub fed-is : (x : Updated) (buffer : List ℕ) (c fed : Chip) → fed ≡ fedBy (x .answer) buffer c →
-    record { answer = answers.the-variants.List (x .answer); world = record { state = x .state; chip = fed } } ≡ listed x buffer c
+    record { answer = answers.the-variants.List (x .answer); world = record { state = x .state; chip = fed } } ≡ listStep x buffer c
 fed-is x buffer c fed e = ap (λ (d : Chip). record { answer = answers.the-variants.List (x .answer); world = record { state = x .state; chip = d } }) e
 
-pub listed-is : (s : Stepped) (x y : Updated) (new buffer : List ℕ) (c : Chip) → s ≡ listed x new c → x ≡ y → new ≡ buffer → s ≡ listed y buffer c
-listed-is s x y new buffer c e u b = e ∙ ap (λ (z : Updated). listed z new c) u ∙ ap (λ (l : List ℕ). listed y l c) b
+pub list-step-is : (s : Stepped) (x y : Updated) (new buffer : List ℕ) (c : Chip) → s ≡ listStep x new c → x ≡ y → new ≡ buffer → s ≡ listStep y buffer c
+list-step-is s x y new buffer c e u b = e ∙ ap (λ (z : Updated). listStep z new c) u ∙ ap (λ (l : List ℕ). listStep y l c) b

@@ -1,5 +1,5 @@
 -- Demand 3, a claim about whole lists of calls: document 01, "The ledger and whole lists". m, b and p are the member, bus and pins
--- that Open was given.
+-- that Open was given. Quotations are of document 01, but for those that are marked as the wording of demand 3 itself.
 -- Assumes nothing.
 use mathlib.Core.Path.{_≡_}
 use mathlib.Core.Bool.{true}
@@ -38,6 +38,7 @@ abbrev pub run : World → List Call → World
 run w [] = w
 run w (c ∷ cs) = run (stepOf w (c .request) (c .lent) .world) cs
 
+-- the record and its chip after these calls
 abbrev pub worldAfter : ℕ → ℕ → ℕ → List Call → World
 worldAfter m b p calls = run (start m b p) calls
 
@@ -62,6 +63,7 @@ pub record WritesWritable (m b p : ℕ) (x : List ℕ) : Type 0 where
   pub write : decodeOf b p (getD x 0 0) (getD x 1 0) ≡ Write (burstOf b x .start)
   pub writable : (i : ℕ) → i < length (burstOf b x .bytes) → writableOf m (burstOf b x .start + i) ≡ true
 
+-- so is each transaction of a list: "An update names the address of each data byte in its list"
 abbrev pub AllWriteWritable : ℕ → ℕ → ℕ → List (List ℕ) → Type 0
 AllWriteWritable m b p [] = Unit
 AllWriteWritable m b p (x ∷ xs) = WritesWritable m b p x × AllWriteWritable m b p xs
@@ -88,12 +90,12 @@ module _ (m b p : ℕ) where
   -- What is owed after `calls`, the last of which is an accepted Update that answered n and t: `before` are those before it, and
   -- `list` is what it wrote.
   pub record LastUpdate (calls before : List Call) (list : List ℕ) (n t : ℕ) : Type 0 where
-    -- "with chip enable wanted on, the chip holds in every writable register exactly what the ledger of accepted settings says"
+    -- demand 3: "with chip enable wanted on, the chip holds in every writable register exactly what the ledger of accepted settings says"
     pub values : wantsOn (ledger m calls) ≡ true → SameWritable m (worldAfter m b p calls .chip .registers) (ledger m calls)
-    -- "every rival list .. has at least as many bus bytes as the update reports."
+    -- demand 3: "every rival list .. has at least as many bus bytes as the update reports."
     pub fewest : (l : List ℕ) → Rival m b p (worldAfter m b p before .chip) (worldAfter m b p calls .chip) l → t ≤ tOf l
     -- "With equal bytes this takes the fewer writes."
-    pub writes : (l : List ℕ) → Rival m b p (worldAfter m b p before .chip) (worldAfter m b p calls .chip) l → tOf l ≡ t → n ≤ nOf l
+    pub fewest-writes : (l : List ℕ) → Rival m b p (worldAfter m b p before .chip) (worldAfter m b p calls .chip) l → tOf l ≡ t → n ≤ nOf l
     -- Its own list, of n transactions and t bus bytes, does what the rivals do: the least is reached.
     pub own : Rival m b p (worldAfter m b p before .chip) (worldAfter m b p calls .chip) list
     pub own-count : nOf list ≡ n
@@ -101,10 +103,10 @@ module _ (m b p : ℕ) where
 
   -- "Demand 3 is a single claim about the whole list, not one for each call."
   pub record Demand3 (calls : List Call) : Type 0 where
-    -- "no update names an address outside the member's writable ones": no accepted Update, wherever it stands
+    -- demand 3: "no update names an address outside the member's writable ones": no accepted Update, wherever it stands
     pub names : (before after : List Call) (buffer : List ℕ) (n t : ℕ) → Updates calls before after buffer n t →
         AllWriteWritable m b p (transactions (updateList before buffer n t))
-    -- "and if the last call is an accepted update"
+    -- demand 3: "and if the last call is an accepted update"
     pub last : (before : List Call) (buffer : List ℕ) (n t : ℕ) → Updates calls before [] buffer n t →
         LastUpdate calls before (updateList before buffer n t) n t
 

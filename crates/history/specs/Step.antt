@@ -39,23 +39,23 @@ Within (Refused r) size = Unit
 -- ---- A step
 
 -- a call that answers a number alone, and the chip after it
-abbrev pub settled : Changed → Chip → Stepped
-settled x c = record { answer = answers.the-variants.Setting (x .answer); world = record { state = x .state; chip = c } }
+abbrev pub settingStep : Changed → Chip → Stepped
+settingStep x c = record { answer = answers.the-variants.Setting (x .answer); world = record { state = x .state; chip = c } }
 
 -- a call that writes a list, the buffer after it, and the chip before it
-abbrev pub listed : Updated → List ℕ → Chip → Stepped
-listed x buffer c = record { answer = answers.the-variants.List (x .answer); world = record { state = x .state; chip = fedBy (x .answer) buffer c } }
+abbrev pub listStep : Updated → List ℕ → Chip → Stepped
+listStep x buffer c = record { answer = answers.the-variants.List (x .answer); world = record { state = x .state; chip = fedBy (x .answer) buffer c } }
 
 -- "at Power lost the chip loses power."
 abbrev pub stepOf : World → Request → List ℕ → Stepped
-stepOf w (Register a v) lent = settled (registerOf (w .state) a v) (w .chip)
-stepOf w (Lamp l s v) lent = settled (lampOf (w .state) l s v) (w .chip)
-stepOf w (Group l s g) lent = settled (groupOf (w .state) l s g) (w .chip)
-stepOf w (Switch l s x) lent = settled (switchOf (w .state) l s x) (w .chip)
-stepOf w Scene lent = settled (sceneOf (w .state) lent) (w .chip)
-stepOf w Reset lent = listed (chipResetOf (w .state) (length lent)) (resetBuffer (w .state) lent) (w .chip)
-stepOf w PowerLost lent = settled (powerLostOf (w .state)) (Rattle.chip.specs.Chip.powerLostOf (w .chip))
-stepOf w Update lent = listed (updateOf (w .state) (length lent)) (updateBuffer (w .state) lent) (w .chip)
+stepOf w (Register a v) lent = settingStep (registerOf (w .state) a v) (w .chip)
+stepOf w (Lamp l s v) lent = settingStep (lampOf (w .state) l s v) (w .chip)
+stepOf w (Group l s g) lent = settingStep (groupOf (w .state) l s g) (w .chip)
+stepOf w (Switch l s x) lent = settingStep (switchOf (w .state) l s x) (w .chip)
+stepOf w Scene lent = settingStep (sceneOf (w .state) lent) (w .chip)
+stepOf w Reset lent = listStep (chipResetOf (w .state) (length lent)) (resetBuffer (w .state) lent) (w .chip)
+stepOf w PowerLost lent = settingStep (powerLostOf (w .state)) (Rattle.chip.specs.Chip.powerLostOf (w .chip))
+stepOf w Update lent = listStep (updateOf (w .state) (length lent)) (updateBuffer (w .state) lent) (w .chip)
 
 -- the lent bytes after it: those of a buffer where a list was written, all others as they were
 abbrev pub lentAfter : World → Request → List ℕ → List ℕ
@@ -70,8 +70,10 @@ lentAfter w Update lent = updateBuffer (w .state) lent
 
 -- ---- The Clears, which are no calls of the list of demand 3
 
+-- Clear opens: its list is fed as that of a Reset is
 abbrev pub clearOpensStep : World → List ℕ → Stepped
-clearOpensStep w buffer = listed (clearOf (w .state) (length buffer)) (clearOpensBuffer (w .state) buffer) (w .chip)
+clearOpensStep w buffer = listStep (clearOf (w .state) (length buffer)) (clearOpensBuffer (w .state) buffer) (w .chip)
 
+-- Clear shorts likewise
 abbrev pub clearShortsStep : World → List ℕ → Stepped
-clearShortsStep w buffer = listed (clearOf (w .state) (length buffer)) (clearShortsBuffer (w .state) buffer) (w .chip)
+clearShortsStep w buffer = listStep (clearOf (w .state) (length buffer)) (clearShortsBuffer (w .state) buffer) (w .chip)

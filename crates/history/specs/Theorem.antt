@@ -231,7 +231,7 @@ module _ (m b p : ℕ) (o : opens m b p ≡ true) (calls before : List Call) (bu
               ∙ values-on m b p o (ledger m before) (worldAfter m b p before) held (ap wantsOn (sym ledger-is) ∙ e) a k
               ∙ ap (λ (s : List ℕ). valueAt s a) (sym ledger-is);
           fewest = λ l v. omega (arith, x .bytes, bytes-least m b p o (ledger m before) (worldAfter m b p before) held l (rival-here l v));
-          writes = λ l v e.
+          fewest-writes = λ l v e.
               omega (arith, x .count, writes-least m b p o (ledger m before) (worldAfter m b p before) held l (rival-here l v) (e ∙ sym (x .bytes)));
           own = own-there;
           own-count = ap nOf (list-is [] u) ∙ encode-n b p sent ready-list ∙ x .count;
@@ -271,7 +271,7 @@ opened m b p e = e
 -- Demand 3
 pub whole-lists : WholeLists
 whole-lists m b p e calls = record {
-  names = λ before after buffer n t u. names-so m b p (opened m b p e) calls before buffer n t after u;
+  names = λ before behind buffer n t u. names-so m b p (opened m b p e) calls before buffer n t behind u;
   last = λ before buffer n t u. last-update m b p (opened m b p e) calls before buffer n t u;
 }
 

@@ -22,7 +22,7 @@ use Rattle.plan.specs.Machine.{Machine, feedBy, Ready}
 use Rattle.plan.specs.Follow.{follows}
 use Rattle.host.specs.declared.Record.{Record}
 use Rattle.host.specs.declared.Changed.{Changed}
-use Rattle.host.specs.Record.{recordOf, soundOf, whenSound, opened, openState, openOf, registerOf, lampOf, groupOf, switchOf, sceneOf, soundAnswer, powerLostOf}
+use Rattle.host.specs.Record.{recordOf, soundOf, whenSound, settled, opened, openState, openOf, registerOf, lampOf, groupOf, switchOf, sceneOf, soundAnswer, powerLostOf}
 use Rattle.host.specs.SoundLaws.{Sound, is-sound, reset-fits, reset-image, register-sound, lamp-sound, group-sound, switch-sound, scene-sound}
 use Rattle.update.specs.declared.ListAnswer.{ListAnswer}
 use Rattle.update.specs.declared.ListAnswer.the-variants.{Listed, Short, Refused}
@@ -41,7 +41,7 @@ use Rattle.history.specs.declared.Request.{Request}
 use Rattle.history.specs.declared.Request.the-variants.{Register, Lamp, Group, Switch, Scene, Reset, PowerLost, Update}
 use Rattle.history.specs.Ledger.{entry, openedLedger, enteredOf}
 use Rattle.history.specs.LedgerLaws.{register-enters, lamp-enters, group-enters, switch-enters, scene-enters}
-use Rattle.history.specs.Step.{listIn, fedBy, settled, listed, stepOf}
+use Rattle.history.specs.Step.{listIn, fedBy, settingStep, listStep, stepOf}
 use Rattle.history.specs.History.{Call, start, run, worldAfter, entries, ledger}
 
 -- ---- the chip model as a machine of the crate plan
@@ -127,7 +127,7 @@ module _ (m b p : ℕ) (o : opens m b p ≡ true) where
     -- ---- a setting
 
     enters : (x : Changed) (new : List ℕ) → x .state ≡ recordOf m b p (x .state .settings) image → x .state .settings ≡ cond (soundOf state) new s →
-        Sound (x .state) → Holds m b p new (settled x chip .world)
+        Sound (x .state) → Holds m b p new (settingStep x chip .world)
     enters x new e f z =
         let n : x .state ≡ recordOf m b p new image =
         e ∙ ap (λ (y : List ℕ). recordOf m b p y image) (f ∙ ap (λ (c : Bool). cond c new s) is-so) in
@@ -141,24 +141,24 @@ module _ (m b p : ℕ) (o : opens m b p ≡ true) where
           same = same;
         }
 
-    register-holds : (a v : ℕ) (lent : List ℕ) → Holds m b p (entry m s (Register a v) lent) (settled (registerOf state a v) chip .world)
-    unfolding registerOf Rattle.host.specs.Record.settled
+    register-holds : (a v : ℕ) (lent : List ℕ) → Holds m b p (entry m s (Register a v) lent) (settingStep (registerOf state a v) chip .world)
+    unfolding registerOf settled
     register-holds a v lent = enters (registerOf state a v) (entry m s (Register a v) lent) refl (register-enters state lent a v) (register-sound state a v sound)
 
-    lamp-holds : (l k v : ℕ) (lent : List ℕ) → Holds m b p (entry m s (Lamp l k v) lent) (settled (lampOf state l k v) chip .world)
-    unfolding lampOf Rattle.host.specs.Record.settled
+    lamp-holds : (l k v : ℕ) (lent : List ℕ) → Holds m b p (entry m s (Lamp l k v) lent) (settingStep (lampOf state l k v) chip .world)
+    unfolding lampOf settled
     lamp-holds l k v lent = enters (lampOf state l k v) (entry m s (Lamp l k v) lent) refl (lamp-enters state lent l k v) (lamp-sound state l k v sound)
 
-    group-holds : (l k g : ℕ) (lent : List ℕ) → Holds m b p (entry m s (Group l k g) lent) (settled (groupOf state l k g) chip .world)
-    unfolding groupOf Rattle.host.specs.Record.settled
+    group-holds : (l k g : ℕ) (lent : List ℕ) → Holds m b p (entry m s (Group l k g) lent) (settingStep (groupOf state l k g) chip .world)
+    unfolding groupOf settled
     group-holds l k g lent = enters (groupOf state l k g) (entry m s (Group l k g) lent) refl (group-enters state lent l k g) (group-sound state l k g sound)
 
-    switch-holds : (l k x : ℕ) (lent : List ℕ) → Holds m b p (entry m s (Switch l k x) lent) (settled (switchOf state l k x) chip .world)
-    unfolding switchOf Rattle.host.specs.Record.settled
+    switch-holds : (l k x : ℕ) (lent : List ℕ) → Holds m b p (entry m s (Switch l k x) lent) (settingStep (switchOf state l k x) chip .world)
+    unfolding switchOf settled
     switch-holds l k x lent = enters (switchOf state l k x) (entry m s (Switch l k x) lent) refl (switch-enters state lent l k x) (switch-sound state l k x sound)
 
-    scene-holds : (lent : List ℕ) → Holds m b p (entry m s Scene lent) (settled (sceneOf state lent) chip .world)
-    unfolding sceneOf Rattle.host.specs.Record.settled
+    scene-holds : (lent : List ℕ) → Holds m b p (entry m s Scene lent) (settingStep (sceneOf state lent) chip .world)
+    unfolding sceneOf settled
     scene-holds lent = enters (sceneOf state lent) (entry m s Scene lent) refl (scene-enters state lent) (scene-sound state lent sound)
 
     -- ---- the chip at reset values, and the record told so
@@ -186,7 +186,7 @@ module _ (m b p : ℕ) (o : opens m b p ≡ true) where
     unfolding powerLostOf soundAnswer whenSound
     told = rw (is-so) refl
 
-    power-holds : Holds m b p s (settled (powerLostOf state) (Rattle.chip.specs.Chip.powerLostOf chip) .world)
+    power-holds : Holds m b p s (settingStep (powerLostOf state) (Rattle.chip.specs.Chip.powerLostOf chip) .world)
     unfolding newChip
     power-holds =
         subst (λ (w : World). Holds m b p s w)
@@ -231,7 +231,7 @@ module _ (m b p : ℕ) (o : opens m b p ≡ true) where
         subst (λ (f : Fed). Holds m b p s (record { state = recordOf m b p s (storeAll (writesOf state) image); chip = f .chip }))
         (sym (ap (feedOf chip) e ∙ update-fed)) updated-holds
 
-    update-holds : (buffer : List ℕ) → Holds m b p s (listed (updateOf state (length buffer)) (updateBuffer state buffer) chip .world)
+    update-holds : (buffer : List ℕ) → Holds m b p s (listStep (updateOf state (length buffer)) (updateBuffer state buffer) chip .world)
     unfolding updateOf updateImage updateBuffer updateAnswer
     update-holds buffer = rw (is-so) (go (leb (listSize (writesOf state)) (length buffer)))
       where
@@ -245,7 +245,7 @@ module _ (m b p : ℕ) (o : opens m b p ≡ true) where
         go true = sent-holds (listIn (length (writesOf state)) (busBytes (writesOf state)) (over (encode b p (writesOf state)) buffer)) (front b p (writesOf state) buffer)
         go false = stays
 
-    reset-call-holds : (buffer : List ℕ) → Holds m b p s (listed (chipResetOf state (length buffer)) (resetBuffer state buffer) chip .world)
+    reset-call-holds : (buffer : List ℕ) → Holds m b p s (listStep (chipResetOf state (length buffer)) (resetBuffer state buffer) chip .world)
     unfolding chipResetOf commandAnswer commandBuffer newChip
     reset-call-holds buffer = rw (is-so) (go (leb 9 (length buffer)))
       where

@@ -2,7 +2,7 @@
 ghost use mathlib.Core.Path.{_≡_};
 ghost use lib.ListN.{length};
 ghost use Rattle.update.specs.Update.{updateBuffer, resetBuffer, clearOpensBuffer, clearShortsBuffer, updateOf, chipResetOf, clearOf};
-ghost use Rattle.history.specs.Step.{Within, fedBy, listed};
+ghost use Rattle.history.specs.Step.{Within, fedBy, listStep};
 use crate::CallAnswer;
 use crate::Stepped;
 use crate::World;
@@ -19,7 +19,8 @@ fn fed(answer: ListAnswer, chip: Chip, buffer: &[u8]) -> Chip
     match answer {
         ListAnswer::Listed { n, t } => {
             let size = 4 + 2 * n + t;
-            let fed = chip::feed(chip, &buffer[..size]);
+            let list = &buffer[..size];
+            let fed = chip::feed(chip, list);
             let after = fed.chip;
             after
         }
@@ -28,9 +29,9 @@ fn fed(answer: ListAnswer, chip: Chip, buffer: &[u8]) -> Chip
     }
 }
 
-fn stepped(updated: Updated, chip: Chip, buffer: &[u8]) -> Stepped
+fn list_step(updated: Updated, chip: Chip, buffer: &[u8]) -> Stepped
     requires { ⌜ Within (updated .answer) (length (now buffer)) ⌝ }
-    ensures { λ r. ⌜ r ≡ listed updated (now (buffer .entry)) chip ⌝ }
+    ensures { λ r. ⌜ r ≡ listStep updated (now (buffer .entry)) chip ⌝ }
 {
     let answer = updated.answer;
     let state = updated.state;
@@ -46,33 +47,33 @@ fn stepped(updated: Updated, chip: Chip, buffer: &[u8]) -> Stepped
 }
 
 pub(crate) fn update(state: Record, chip: Chip, buffer: &mut [u8]) -> Stepped
-    ensures { λ r. ⌜ r ≡ listed (updateOf state (length (now (buffer .entry)))) (updateBuffer state (now (buffer .entry))) chip ⌝ }
+    ensures { λ r. ⌜ r ≡ listStep (updateOf state (length (now (buffer .entry)))) (updateBuffer state (now (buffer .entry))) chip ⌝ }
     ensures { λ _. ⌜ now (buffer .exit) ≡ updateBuffer state (now (buffer .entry)) ⌝ }
 {
     let updated = update::update(state, buffer);
-    stepped(updated, chip, buffer)
+    list_step(updated, chip, buffer)
 }
 
 pub(crate) fn reset(state: Record, chip: Chip, buffer: &mut [u8]) -> Stepped
-    ensures { λ r. ⌜ r ≡ listed (chipResetOf state (length (now (buffer .entry)))) (resetBuffer state (now (buffer .entry))) chip ⌝ }
+    ensures { λ r. ⌜ r ≡ listStep (chipResetOf state (length (now (buffer .entry)))) (resetBuffer state (now (buffer .entry))) chip ⌝ }
     ensures { λ _. ⌜ now (buffer .exit) ≡ resetBuffer state (now (buffer .entry)) ⌝ }
 {
     let updated = update::reset(state, buffer);
-    stepped(updated, chip, buffer)
+    list_step(updated, chip, buffer)
 }
 
 pub(crate) fn clear_opens(state: Record, chip: Chip, buffer: &mut [u8]) -> Stepped
-    ensures { λ r. ⌜ r ≡ listed (clearOf state (length (now (buffer .entry)))) (clearOpensBuffer state (now (buffer .entry))) chip ⌝ }
+    ensures { λ r. ⌜ r ≡ listStep (clearOf state (length (now (buffer .entry)))) (clearOpensBuffer state (now (buffer .entry))) chip ⌝ }
     ensures { λ _. ⌜ now (buffer .exit) ≡ clearOpensBuffer state (now (buffer .entry)) ⌝ }
 {
     let updated = update::clear_opens(state, buffer);
-    stepped(updated, chip, buffer)
+    list_step(updated, chip, buffer)
 }
 
 pub(crate) fn clear_shorts(state: Record, chip: Chip, buffer: &mut [u8]) -> Stepped
-    ensures { λ r. ⌜ r ≡ listed (clearOf state (length (now (buffer .entry)))) (clearShortsBuffer state (now (buffer .entry))) chip ⌝ }
+    ensures { λ r. ⌜ r ≡ listStep (clearOf state (length (now (buffer .entry)))) (clearShortsBuffer state (now (buffer .entry))) chip ⌝ }
     ensures { λ _. ⌜ now (buffer .exit) ≡ clearShortsBuffer state (now (buffer .entry)) ⌝ }
 {
     let updated = update::clear_shorts(state, buffer);
-    stepped(updated, chip, buffer)
+    list_step(updated, chip, buffer)
 }

@@ -8,7 +8,7 @@ mod feeding;
 mod ledgers;
 
 ghost use mathlib.Core.Path.{_≡_};
-ghost use Rattle.history.specs.Step.{settled, stepOf, lentAfter, clearOpensStep, clearShortsStep};
+ghost use Rattle.history.specs.Step.{settingStep, stepOf, lentAfter, clearOpensStep, clearShortsStep};
 ghost use Rattle.history.specs.Ledger.{openedLedger, enteredOf};
 ghost use Rattle.update.specs.Update.{clearOpensBuffer, clearShortsBuffer};
 use chip::Chip;
@@ -76,12 +76,15 @@ pub fn step(world: World, request: Request, lent: &mut [u8]) -> Stepped
     let state = world.state;
     let chip = world.chip;
     match request {
-        Request::Register { address, value } => settled(
+        Request::Register { address, value } => setting_step(
             host::register(state, address, value),
             chip,
         ),
-        Request::Lamp { line, sink, level } => settled(host::lamp(state, line, sink, level), chip),
-        Request::Group { line, sink, group } => settled(
+        Request::Lamp { line, sink, level } => setting_step(
+            host::lamp(state, line, sink, level),
+            chip,
+        ),
+        Request::Group { line, sink, group } => setting_step(
             host::group(state, line, sink, group),
             chip,
         ),
@@ -89,21 +92,21 @@ pub fn step(world: World, request: Request, lent: &mut [u8]) -> Stepped
             line,
             sink,
             state: on,
-        } => settled(host::switch(state, line, sink, on), chip),
-        Request::Scene => settled(host::scene(state, lent), chip),
+        } => setting_step(host::switch(state, line, sink, on), chip),
+        Request::Scene => setting_step(host::scene(state, lent), chip),
         Request::Reset => feeding::reset(state, chip, lent),
         Request::PowerLost => {
             let changed = host::power_lost(state);
             let reset = chip::power_lost(chip);
-            settled(changed, reset)
+            setting_step(changed, reset)
         }
         Request::Update => feeding::update(state, chip, lent),
     }
 }
 
 // A call that answers a number alone, and the chip after it.
-fn settled(changed: Changed, chip: Chip) -> Stepped
-    ensures { λ r. ⌜ r ≡ settled changed chip ⌝ }
+fn setting_step(changed: Changed, chip: Chip) -> Stepped
+    ensures { λ r. ⌜ r ≡ settingStep changed chip ⌝ }
 {
     let answer = changed.answer;
     let state = changed.state;

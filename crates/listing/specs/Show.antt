@@ -16,6 +16,7 @@ use Rattle.text.specs.Text.{addressText, decimalText, spacedBytesText}
 unfoldable pub lineText : List ℕ → List ℕ
 lineText x = addressText (headAddress 0 (getD x 0 0) (getD x 1 0)) ++ (spacedBytesText (drop 2 x) ++ (0x0A ∷ []))
 
+-- the lines of all transactions, one after the other
 unfoldable pub linesText : List (List ℕ) → List ℕ
 linesText [] = []
 linesText (x ∷ xs) = lineText x ++ linesText xs

@@ -3,7 +3,7 @@
 use Prim.Native.Nat.{_+_, _-_, _<_}
 use native.Mathlib.Omega.{arith}
 use lib.ListN.{length}
-use Rattle.chip.proofs.Steps.{Heard, heard-none, heard-reset, heard-more, heard-all, heard-deaf, heard-dots}
+use Rattle.chip.proofs.Steps.{Heard, heard-none, heard-reset, heard-more, heard-all, heard-unheard, heard-dots}
 use Rattle.chip.proofs.data.hear.Statement.{statement}
 use Rattle.chip.proofs.data.hear.Tie as tie
 
@@ -42,7 +42,7 @@ returns c =
     (c .hear-dots .ensures)
 
 returns-2 : tie.Need-returns-2 Inv-loop μ-loop
-returns-2 c = heard-deaf _ _ _ _ _ _ _ (c .before .before .before .loop .inv .0) (c .if2 .left) (c .before .if1 .taken)
+returns-2 c = heard-unheard _ _ _ _ _ _ _ (c .before .before .before .loop .inv .0) (c .if2 .left) (c .before .if1 .taken)
 
 shared-slice-read-hear-low : tie.Need-shared-slice-read-hear-low Inv-loop μ-loop
 shared-slice-read-hear-low c = omega arith

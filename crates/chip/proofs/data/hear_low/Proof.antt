@@ -1,6 +1,6 @@
 -- `chip::data::hear_low` meets its contract.
 -- Assumes nothing.
-use Rattle.chip.proofs.Steps.{low-reset, low-deaf, low-heard}
+use Rattle.chip.proofs.Steps.{low-reset, low-unheard, low-heard}
 use borrow.Author.Needs.{needs}
 use Rattle.chip.proofs.data.hear_low.Statement.{statement}
 use Rattle.chip.proofs.data.hear_low.Tie as tie
@@ -19,7 +19,7 @@ hears-requires c κs = search needs
 
 returns-2 : tie.Need-returns-2
 returns-2 c =
-    low-deaf _ _ _ _ _ _ _ (c .before .before .before .commands .ensures) (c .before .before .if1 .left) (c .before .hears .ensures)
+    low-unheard _ _ _ _ _ _ _ (c .before .before .before .commands .ensures) (c .before .before .if1 .left) (c .before .hears .ensures)
     (c .if2 .taken)
 
 put-low-requires : tie.Need-put-low-requires

@@ -18,8 +18,8 @@ add-size c = omega (arith, listed-within _ _ _ _ (c .before .answer .given .1) (
 add-size-2 : tie.Need-add-size-2
 add-size-2 c = omega (arith, listed-within _ _ _ _ (c .before .answer .given .1) (c .before .before .before .before .pre))
 
-slice-aggregate-feed : tie.Need-slice-aggregate-feed
-slice-aggregate-feed c = list-length _ _ _ _ (c .before .before .answer .given .1) (c .before .before .before .before .before .pre)
+slice-aggregate-list : tie.Need-slice-aggregate-list
+slice-aggregate-list c = list-length _ _ _ _ (c .before .before .answer .given .1) (c .before .before .before .before .before .pre)
 
 feed-requires : tie.Need-feed-requires
 feed-requires c κs = search needs
@@ -47,7 +47,7 @@ fed-spec =
     mul-size
     add-size
     add-size-2
-    slice-aggregate-feed
+    slice-aggregate-list
     feed-requires
     enum-told
     enum-told-2
