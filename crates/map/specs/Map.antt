@@ -85,6 +85,16 @@ addressOf fields.the-variants.Current l s = 0x100 + dotNumber l s
 addressOf fields.the-variants.Pwm8 l s = 0x200 + dotNumber l s
 addressOf fields.the-variants.Pwm16 l s = 0x200 + 2 * dotNumber l s
 
+-- the kind of the registers that hold a field: "group", "switch", "open bits", "short bits", "dot current", "PWM" in either data mode
+unfoldable pub fieldKind : fields.Field → Kind
+fieldKind fields.the-variants.Group = Group
+fieldKind fields.the-variants.Switch = Switch
+fieldKind fields.the-variants.Open = Open
+fieldKind fields.the-variants.Short = Short
+fieldKind fields.the-variants.Current = Current
+fieldKind fields.the-variants.Pwm8 = Pwm
+fieldKind fields.the-variants.Pwm16 = Pwm
+
 -- the lowest bit of a field in its byte: "two bits at 2 × (sink mod 4)", "bit sink mod 8"
 unfoldable pub shiftOf : fields.Field → ℕ → ℕ
 shiftOf fields.the-variants.Group s = 2 * (s % 4)
