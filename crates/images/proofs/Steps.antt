@@ -13,11 +13,12 @@ use lib.Dec.{ltb, eqb}
 use lib.Bits.{bitAnd, bitOr, or-add-and, or-zero-l, or-zero-r, and-le-l, and-le-r}
 use lib.ListN.{length, getD, set}
 use Rattle.map.specs.Lists.{allFrom, filled}
-use Rattle.map.specs.Map.{linesOf, columnsOf, hasColumn, dotIn, numberIn, switchReserved, currentReserved, pwmReserved, reservedOf, firstResets, firstReset, switchBytesOf, switchReset, currentReset, resetOf}
+use Rattle.map.specs.Map.{linesOf, columnsOf, hasColumn, dotIn, numberIn, switchReserved, currentReserved, pwmReserved, reservedOf, firstResets, switchBytesOf, switchReset, currentReset, resetOf}
 use Rattle.map.specs.MapLaws.{lines-most, reserved-switch, reserved-current, reserved-pwm, reset-first, reset-switch, reset-current, reset-pwm}
 use Rattle.map.specs.ListLaws.{all-none, all-more, all-split, all-fails, all-at, all-from, filled-more}
 use Rattle.map.specs.Images.{okByte, okAt, zeroAt}
 use Rattle.map.specs.ImageLaws.{fit-ok, ok-masked, ok-fixed, ok-free}
+use Rattle.map.proofs.Tables.{reset-entry}
 use Rattle.images.specs.Ranges.{Row}
 
 -- ---- row_ok
@@ -156,10 +157,6 @@ level-other m n cs x v r en ec h hv ne er = go (numberIn n cs (x / 2) || numberI
 
 -- ---- reset_image
 
-pub first-reset-at : (m a : ℕ) → m < 5 → firstReset m a ≡ getD firstResets a 0
-unfolding firstReset
-first-reset-at m a h = rw (lt-ltb m 5 h) refl
-
 -- a store of an address's reset value fills the range by one
 pub fill-more : (m first x : ℕ) (old image : List ℕ) (v : ℕ) → v ≡ resetOf m (first + x) → image ≡ filled (resetOf m) first x old →
     set image (first + x) v ≡ filled (resetOf m) first (x + 1) old
@@ -184,7 +181,7 @@ pub fill-first : (m : ℕ) (resets old image : List ℕ) (a : ℕ) → m < 5 →
 fill-first m resets old image a hm ha er ei =
     ap (λ (k : ℕ). set image k (getD resets a 0)) (sym (zero-add a))
     ∙ fill-more m 0 a old image (getD resets a 0)
-    (ap (λ (t : List ℕ). getD t a 0) er ∙ sym (first-reset-at m a hm) ∙ sym (reset-first m a ha) ∙ ap (resetOf m) (sym (zero-add a))) ei
+    (reset-entry resets m a hm er ∙ sym (reset-first m a ha) ∙ ap (resetOf m) (sym (zero-add a))) ei
 
 -- ---- currents_ok, levels_ok
 

@@ -18,8 +18,8 @@ use Rattle.map.specs.MapLaws.{Empty, lines-most, reserved-first, reserved-group
 use Rattle.map.specs.Images.{okAt, zeroAt, isFault, okOrFault, imageOk, registersOk, resetImage}
 use Rattle.map.specs.ImageLaws.{fit-ok, empty-range, Registers, image-ok, registers-ok, ok-registers, image-registers}
 use Rattle.images.specs.Ranges.{Row, zeroImage}
-use Rattle.map.proofs.Tables.{entry, masks-length}
-use Rattle.images.proofs.Steps.{all-join, part-fails, first-reset-at}
+use Rattle.map.proofs.Tables.{mask-entry, reset-entry, masks-length}
+use Rattle.images.proofs.Steps.{all-join, part-fails}
 
 -- a range that holds, and what follows it
 join : (f : ℕ → Bool) (a n b k e : ℕ) (r : Bool) → a + n ≡ b → n + k ≡ e → allFrom f a n ≡ true → allFrom f b k ≡ r → allFrom f a e ≡ r
@@ -38,8 +38,8 @@ first-row m masks resets image h size em er = (
   omega (arith, ap length em, masks-length m),
   omega (arith, ap length em, ap length er, masks-length m),
   record {
-    mask = λ q l. ap (reservedOf m) (zero-add q) ∙ reserved-first m q (small q l) ∙ sym (entry masks m q h (small q l) em);
-    reset = λ q l. ap (resetOf m) (zero-add q) ∙ reset-first m q (small q l) ∙ first-reset-at m q h ∙ ap (λ (t : List ℕ). getD t q 0) (sym er);
+    mask = λ q l. ap (reservedOf m) (zero-add q) ∙ reserved-first m q (small q l) ∙ sym (mask-entry masks m q h (small q l) em);
+    reset = λ q l. ap (resetOf m) (zero-add q) ∙ reset-first m q (small q l) ∙ sym (reset-entry resets m q h er);
   },
 )
   where

@@ -188,7 +188,7 @@ fn low_ok(member: usize, image: &[u8]) -> bool
     ensures { λ r. ⌜ r ≡ allFrom (okAt member (now (image .entry))) 0 100 ⌝ }
 {
     let masks = map::first_masks(member);
-    let resets = map::first_resets();
+    let resets = map::first_resets(member);
     if !row_ok(member, image, 0, &masks, &resets) {
         return false;
     }
@@ -249,7 +249,7 @@ fn put_firsts(member: usize, image: &mut [u8; 908])
     requires { ⌜ (member < 5) × (length (now image) ≡ 908) ⌝ }
     ensures { λ _. ⌜ now (image .exit) ≡ filled (resetOf member) 0 12 (now (image .entry)) ⌝ }
 {
-    let resets = map::first_resets();
+    let resets = map::first_resets(member);
     let mut a: usize = 0;
     while a < 12 {
         image[a] = resets[a];

@@ -39,7 +39,11 @@ within [] a x y h = absurd (omega arith)
 within (v ∷ l) zero x y h = refl
 within (v ∷ l) (suc a) x y h = within l a x y (omega arith)
 
-pub entry : (l : List ℕ) (m a : ℕ) → m < 5 → a < 12 → l ≡ firstMasks m → getD l a 0 ≡ firstMask m a
+pub mask-entry : (l : List ℕ) (m a : ℕ) → m < 5 → a < 12 → l ≡ firstMasks m → getD l a 0 ≡ firstMask m a
 unfolding firstMask
-entry l m a hm ha e =
+mask-entry l m a hm ha e =
     ap (λ (t : List ℕ). getD t a 0) e ∙ within (firstMasks m) a 0 255 (omega (arith, masks-length m)) ∙ simp (lt-ltb m 5 hm)
+
+pub reset-entry : (l : List ℕ) (m a : ℕ) → m < 5 → l ≡ firstResets → getD l a 0 ≡ firstReset m a
+unfolding firstReset
+reset-entry l m a hm e = ap (λ (t : List ℕ). getD t a 0) e ∙ simp (lt-ltb m 5 hm)

@@ -28,9 +28,11 @@ everyColumn = 2 ^ 18 - 1
 abbrev pub lp5867Columns : ℕ
 lp5867Columns = 2 ^ 0 + 2 ^ 1 + 2 ^ 8 + 2 ^ 9 + 2 ^ 16 + 2 ^ 17
 
+-- the "column set" of each member: every sink, but for the LP5867
 unfoldable pub columnsOf : ℕ → ℕ
 columnsOf m = getD (everyColumn ∷ everyColumn ∷ everyColumn ∷ lp5867Columns ∷ everyColumn ∷ []) m 0
 
+-- "Sinks are 0 to 17": sink s is in the column set
 unfoldable pub hasColumn : ℕ → ℕ → Bool
 hasColumn cs s = ltb s 18 && eqb (cs / 2 ^ s % 2) 1
 
@@ -40,6 +42,7 @@ hasColumn cs s = ltb s 18 && eqb (cs / 2 ^ s % 2) 1
 unfoldable pub dotIn : ℕ → ℕ → ℕ → ℕ → Bool
 dotIn n cs l s = ltb l n && hasColumn cs s
 
+-- "one of its dots": a dot that the member has by its lines and sinks
 unfoldable pub isDot : ℕ → ℕ → ℕ → Bool
 isDot m l s = dotIn (linesOf m) (columnsOf m) l s
 
@@ -47,13 +50,15 @@ isDot m l s = dotIn (linesOf m) (columnsOf m) l s
 abbrev pub dotNumber : ℕ → ℕ → ℕ
 dotNumber l s = 18 * l + s
 
+-- "A dot is line, sink; its number is d": the number of a dot that the member has
 unfoldable pub numberOf : ℕ → ℕ → ℕ → numbers.DotNumber
 numberOf m l s = cond (isDot m l s) (numbers.the-variants.Is (dotNumber l s)) numbers.the-variants.Absent
 
--- the dot of a number: its line and sink, if the chip has it
+-- "d = 18 × line + sink", read backwards: whether a chip of n lines and the columns cs has the dot of a number
 unfoldable pub numberIn : ℕ → ℕ → ℕ → Bool
 numberIn n cs d = dotIn n cs (d / 18) (d % 18)
 
+-- "by dot number": the line and sink of the number d, if the member has that dot
 unfoldable pub dotOf : ℕ → ℕ → dots.Dot
 dotOf m d = cond (isDot m (d / 18) (d % 18)) (dots.the-variants.At (d / 18) (d % 18)) dots.the-variants.Absent
 
@@ -85,6 +90,16 @@ addressOf fields.the-variants.Current l s = 0x100 + dotNumber l s
 addressOf fields.the-variants.Pwm8 l s = 0x200 + dotNumber l s
 addressOf fields.the-variants.Pwm16 l s = 0x200 + 2 * dotNumber l s
 
+-- the kind of the registers that hold a field: "group", "switch", "open bits", "short bits", "dot current", "PWM" in either data mode
+unfoldable pub fieldKind : fields.Field → Kind
+fieldKind fields.the-variants.Group = Group
+fieldKind fields.the-variants.Switch = Switch
+fieldKind fields.the-variants.Open = Open
+fieldKind fields.the-variants.Short = Short
+fieldKind fields.the-variants.Current = Current
+fieldKind fields.the-variants.Pwm8 = Pwm
+fieldKind fields.the-variants.Pwm16 = Pwm
+
 -- the lowest bit of a field in its byte: "two bits at 2 × (sink mod 4)", "bit sink mod 8"
 unfoldable pub shiftOf : fields.Field → ℕ → ℕ
 shiftOf fields.the-variants.Group s = 2 * (s % 4)
@@ -95,7 +110,7 @@ shiftOf fields.the-variants.Current s = 0
 shiftOf fields.the-variants.Pwm8 s = 0
 shiftOf fields.the-variants.Pwm16 s = 0
 
--- how many bits a field has
+-- how many bits a field has: "two bits" of group, a "bit" of switch, open and short, "8 bits" or "16 bits" of PWM
 unfoldable pub widthOf : fields.Field → ℕ
 widthOf fields.the-variants.Group = 2
 widthOf fields.the-variants.Switch = 1
@@ -105,16 +120,19 @@ widthOf fields.the-variants.Current = 8
 widthOf fields.the-variants.Pwm8 = 8
 widthOf fields.the-variants.Pwm16 = 16
 
+-- "two bits at", "bit sink mod 8": a field's address and its lowest bit there, by the formulas alone
 unfoldable pub placeAs : fields.Field → ℕ → ℕ → places.Place
 placeAs f l s = places.the-variants.At (addressOf f l s) (shiftOf f s)
 
+-- "carries a bit for one of its dots": the place of a field, if the member has the dot
 unfoldable pub placeOf : fields.Field → ℕ → ℕ → ℕ → places.Place
 placeOf f m l s = cond (isDot m l s) (placeAs f l s) places.the-variants.Absent
 
--- "001h: line number bits 6-3, data mode bits 2-1"
+-- "001h: line number bits 6-3"
 unfoldable pub lineNumber : ℕ → ℕ
 lineNumber v = v / 2 ^ 3 % 2 ^ 4
 
+-- "data mode bits 2-1" of 001h
 unfoldable pub dataMode : ℕ → ℕ
 dataMode v = v / 2 ^ 1 % 2 ^ 2
 
@@ -132,9 +150,11 @@ commonMasks = 0xFE ∷ 0x80 ∷ 0xF0 ∷ 0x00 ∷ 0x00 ∷ 0x00 ∷ 0x00 ∷ 0x0
 abbrev pub lp5861tMasks : List ℕ
 lp5861tMasks = 0xFE ∷ 0xF8 ∷ 0xF9 ∷ 0x03 ∷ 0xF1 ∷ 0x00 ∷ 0x00 ∷ 0x00 ∷ 0x00 ∷ 0x80 ∷ 0x80 ∷ 0x80 ∷ []
 
+-- "reserved masks of the first twelve registers": the row of a member
 unfoldable pub firstMasks : ℕ → List ℕ
 firstMasks m = cond (eqb m 1) lp5861tMasks commonMasks
 
+-- "Reserved bits" of one of 000h-00Bh: all eight of any other address and of a code above 4
 unfoldable pub firstMask : ℕ → ℕ → ℕ
 firstMask m a = cond (ltb m 5) (getD (firstMasks m) a 255) 255
 
@@ -152,13 +172,15 @@ switchMask cs q =
     noSink cs (8 * q) + noSink cs (8 * q + 1) * 2 + noSink cs (8 * q + 2) * 4 + noSink cs (8 * q + 3) * 8
     + noSink cs (8 * q + 4) * 16 + noSink cs (8 * q + 5) * 32 + noSink cs (8 * q + 6) * 64 + noSink cs (8 * q + 7) * 128
 
--- x places behind the first of its kind: all bits where no bit is for one of the chip's dots
+-- "bits of absent sinks" in the group byte x places behind 00Ch: all bits where its line is absent
 unfoldable pub groupReserved : ℕ → ℕ → ℕ → ℕ
 groupReserved n cs x = cond (ltb (x / 5) n) (groupMask cs (x % 5)) 255
 
+-- "bits of absent sinks" in the switch byte x places behind 043h
 unfoldable pub switchReserved : ℕ → ℕ → ℕ → ℕ
 switchReserved n cs x = cond (ltb (x / 3) n) (switchMask cs (x % 3)) 255
 
+-- "100h + d: dot current": all bits where the chip has no dot x
 unfoldable pub currentReserved : ℕ → ℕ → ℕ → ℕ
 currentReserved n cs x = cond (numberIn n cs x) 0 255
 
@@ -166,6 +188,7 @@ currentReserved n cs x = cond (numberIn n cs x) 0 255
 unfoldable pub pwmReserved : ℕ → ℕ → ℕ → ℕ
 pwmReserved n cs x = cond (numberIn n cs (x / 2) || numberIn n cs x) 0 255
 
+-- "Reserved bits" of an address by its kind: all where it is "a hole, read only or a command"
 unfoldable pub reservedAs : Kind → ℕ → ℕ → ℕ → ℕ → ℕ
 reservedAs Config m n cs a = firstMask m a
 reservedAs Group m n cs a = groupReserved n cs (a - 0x00C)
@@ -193,6 +216,7 @@ writableOf m a = ltb (reservedOf m a) 255
 abbrev pub firstResets : List ℕ
 firstResets = 0x00 ∷ 0x5E ∷ 0x00 ∷ 0x00 ∷ 0x47 ∷ 0xFF ∷ 0xFF ∷ 0xFF ∷ 0xFF ∷ 0x40 ∷ 0x40 ∷ 0x40 ∷ []
 
+-- "Reset values" of one of 000h-00Bh: 00h at any other address and for a code above 4
 unfoldable pub firstReset : ℕ → ℕ → ℕ
 firstReset m a = cond (ltb m 5) (getD firstResets a 0) 0
 
@@ -222,5 +246,6 @@ resetAs Current m a = currentReset (linesOf m) (a - 0x100)
 resetAs Pwm m a = 0
 resetAs Hole m a = 0
 
+-- "reset values": that of any address, for a member
 unfoldable pub resetOf : ℕ → ℕ → ℕ
 resetOf m a = resetAs (kindOf a) m a

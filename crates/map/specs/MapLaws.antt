@@ -29,30 +29,21 @@ pub kind-switch : (a : ℕ) → 0x043 ≤ a → a < 0x064 → kindOf a ≡ Switc
 unfolding kindOf
 kind-switch a l h = simp (le-ltb a 0x00C (omega arith), le-ltb a 0x043 l, lt-ltb a 0x064 h)
 
-pub kind-current : (a : ℕ) → 0x100 ≤ a → a < 0x1C6 → kindOf a ≡ Current
-unfolding kindOf
-kind-current a l h =
-    simp (
-      le-ltb a 0x00C (omega arith),
-      le-ltb a 0x043 (omega arith),
-      le-ltb a 0x064 (omega arith),
-      le-ltb a 0x065 (omega arith),
-      le-ltb a 0x086 (omega arith),
-      le-ltb a 0x0A7 (omega arith),
-      le-ltb a 0x0AA (omega arith),
-      le-ltb a 0x100 l,
-      lt-ltb a 0x1C6 h,
-    )
-
 past-switches : (a : ℕ) → 0x064 ≤ a → a < 0x100 →
     kindOf a ≡ cond (ltb a 0x065) FaultState (cond (ltb a 0x086) Open (cond (ltb a 0x0A7) Short (cond (ltb a 0x0AA) Command Hole)))
 unfolding kindOf
 past-switches a l h =
     simp (le-ltb a 0x00C (omega arith), le-ltb a 0x043 (omega arith), le-ltb a 0x064 l, lt-ltb a 0x100 h)
 
-past-currents : (a : ℕ) → 0x1C6 ≤ a → kindOf a ≡ cond (ltb a 0x200) Hole (cond (ltb a 0x38C) Pwm Hole)
+pub kind-open : (a : ℕ) → 0x065 ≤ a → a < 0x086 → kindOf a ≡ Open
+kind-open a l h = past-switches a (omega arith) (omega arith) ∙ simp (le-ltb a 0x065 l, lt-ltb a 0x086 h)
+
+pub kind-short : (a : ℕ) → 0x086 ≤ a → a < 0x0A7 → kindOf a ≡ Short
+kind-short a l h = past-switches a (omega arith) (omega arith) ∙ simp (le-ltb a 0x065 (omega arith), le-ltb a 0x086 l, lt-ltb a 0x0A7 h)
+
+past-middle : (a : ℕ) → 0x100 ≤ a → kindOf a ≡ cond (ltb a 0x1C6) Current (cond (ltb a 0x200) Hole (cond (ltb a 0x38C) Pwm Hole))
 unfolding kindOf
-past-currents a h =
+past-middle a h =
     simp (
       le-ltb a 0x00C (omega arith),
       le-ltb a 0x043 (omega arith),
@@ -61,9 +52,14 @@ past-currents a h =
       le-ltb a 0x086 (omega arith),
       le-ltb a 0x0A7 (omega arith),
       le-ltb a 0x0AA (omega arith),
-      le-ltb a 0x100 (omega arith),
-      le-ltb a 0x1C6 h,
+      le-ltb a 0x100 h,
     )
+
+pub kind-current : (a : ℕ) → 0x100 ≤ a → a < 0x1C6 → kindOf a ≡ Current
+kind-current a l h = past-middle a l ∙ simp (lt-ltb a 0x1C6 h)
+
+past-currents : (a : ℕ) → 0x1C6 ≤ a → kindOf a ≡ cond (ltb a 0x200) Hole (cond (ltb a 0x38C) Pwm Hole)
+past-currents a h = past-middle a (omega arith) ∙ simp (le-ltb a 0x1C6 h)
 
 pub kind-gap : (a : ℕ) → 0x1C6 ≤ a → a < 0x200 → kindOf a ≡ Hole
 kind-gap a l h = past-currents a l ∙ simp (lt-ltb a 0x200 h)

@@ -9,6 +9,7 @@ use Rattle.map.specs.declared.refusals.Answer.the-variants.{Accepted, Re
 use Rattle.map.specs.declared.refusals.Refusal.{Refusal}
 use Rattle.map.specs.declared.refusals.Refusal.the-variants.{Member, Bus, Pins, NotWritable, ReservedBit, NoDot, Level, GroupOrState, SceneLength, BufferShort, ListSizes, FaultLength, Unsound}
 
+-- "a definition states this paper's number and values for each case of the enum": the number before each refusal's condition
 abbrev pub refusalNumber : Refusal → ℕ
 refusalNumber Member = 1
 refusalNumber Bus = 2
@@ -29,6 +30,7 @@ abbrev pub answerNumber : Answer → ℕ
 answerNumber Accepted = 0
 answerNumber (Refused r) = refusalNumber r
 
+-- "an accepted Open": the answer is no refusal
 abbrev pub accepted : Answer → Bool
 accepted Accepted = true
 accepted (Refused r) = false

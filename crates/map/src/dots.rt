@@ -49,7 +49,8 @@ pub fn width_of(field: Field) -> usize
     }
 }
 
-fn has_column(columns: u32, sink: usize) -> bool
+// Whether a column set has a sink.
+pub(crate) fn has_column(columns: u32, sink: usize) -> bool
     ensures { λ r. ⌜ r ≡ hasColumn columns sink ⌝ }
 {
     if 17 < sink {

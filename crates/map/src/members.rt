@@ -42,8 +42,17 @@ const LP5861T_MASKS: [u8; 12] = [
     0x80,
 ];
 
-// The reset values of 000h to 00Bh: all five summary tables have the same.
-const FIRST_RESETS: [u8; 12] = [
+// The reserved bits of 000h to 00Bh, a row a member.
+const FIRST_MASKS: [[u8; 12]; 5] = [
+    COMMON_MASKS,
+    LP5861T_MASKS,
+    COMMON_MASKS,
+    COMMON_MASKS,
+    COMMON_MASKS,
+];
+
+// The reset values of 000h to 00Bh.
+const COMMON_RESETS: [u8; 12] = [
     0x00,
     0x5E,
     0x00,
@@ -56,6 +65,15 @@ const FIRST_RESETS: [u8; 12] = [
     0x40,
     0x40,
     0x40,
+];
+
+// The reset values of 000h to 00Bh, a row a member: all five summary tables have the same.
+const FIRST_RESETS: [[u8; 12]; 5] = [
+    COMMON_RESETS,
+    COMMON_RESETS,
+    COMMON_RESETS,
+    COMMON_RESETS,
+    COMMON_RESETS,
 ];
 
 // The scan lines of a member; a code above 4 has none.
@@ -78,21 +96,33 @@ pub fn switch_bytes(member: usize) -> usize
     if member < 5 { SWITCH_BYTES[member] } else { 0 }
 }
 
-// The reserved bits of the first twelve registers, for a member below 5.
+// The reserved bits of the first twelve registers. A row is named by a constant: at a variable index the whole table would be
+// built on the stack in each call.
 pub fn first_masks(member: usize) -> [u8; 12]
     ensures { λ r. ⌜ r ≡ firstMasks member ⌝ }
 {
-    if member == 1 {
-        LP5861T_MASKS
-    } else {
-        COMMON_MASKS
+    match member {
+        0 => FIRST_MASKS[0],
+        1 => FIRST_MASKS[1],
+        2 => FIRST_MASKS[2],
+        3 => FIRST_MASKS[3],
+        4 => FIRST_MASKS[4],
+        _ => COMMON_MASKS,
     }
 }
 
-pub fn first_resets() -> [u8; 12]
+// The reset values of the first twelve registers.
+pub fn first_resets(member: usize) -> [u8; 12]
     ensures { λ r. ⌜ r ≡ firstResets ⌝ }
 {
-    FIRST_RESETS
+    match member {
+        0 => FIRST_RESETS[0],
+        1 => FIRST_RESETS[1],
+        2 => FIRST_RESETS[2],
+        3 => FIRST_RESETS[3],
+        4 => FIRST_RESETS[4],
+        _ => COMMON_RESETS,
+    }
 }
 
 // The reserved bits of one of them; all bits elsewhere.
@@ -118,5 +148,6 @@ pub(crate) fn first_reset(member: usize, address: usize) -> u8
     if 11 < address {
         return 0;
     }
-    FIRST_RESETS[address]
+    let resets = first_resets(member);
+    resets[address]
 }

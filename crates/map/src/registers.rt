@@ -2,7 +2,7 @@
 ghost use mathlib.Core.Path.{_≡_};
 ghost use Prim.Native.Nat.{_-_, _<_, _≤_};
 ghost use Rattle.map.specs.Map.{noSink, groupMask, switchMask, groupReserved, switchReserved, currentReserved, pwmReserved, reservedAs, reservedOf, writableOf, switchReset, currentReset, resetAs, resetOf};
-use crate::dots::dot_in;
+use crate::dots::has_column;
 use crate::dots::number_in;
 use crate::kinds::Kind;
 use crate::kinds::kind_at;
@@ -19,7 +19,7 @@ fn offset(address: usize, first: usize) -> usize
 fn no_sink(columns: u32, sink: usize) -> u8
     ensures { λ r. ⌜ (r ≡ noSink columns sink) × (r ≤ 1) ⌝ }
 {
-    if dot_in(1, columns, 0, sink) { 0 } else { 1 }
+    if has_column(columns, sink) { 0 } else { 1 }
 }
 
 // The bits of absent sinks in byte q of the five group bytes of a line.

@@ -4,7 +4,7 @@ use borrow.Author.Tests.{le-ltb}
 use mathlib.Core.Path.{sym}
 use native.Mathlib.Omega.{arith}
 use Rattle.map.specs.Map.{firstMask}
-use Rattle.map.proofs.Tables.{mask-past, entry}
+use Rattle.map.proofs.Tables.{mask-past, mask-entry}
 use borrow.Author.Needs.{needs}
 use Rattle.map.proofs.members.first_mask.Statement.{statement}
 use Rattle.map.proofs.members.first_mask.Tie as tie
@@ -23,7 +23,7 @@ array-read-result : tie.Need-array-read-result
 array-read-result c = search needs
 
 returns-3 : tie.Need-returns-3
-returns-3 c = entry _ _ _ (omega arith) (omega arith) (c .first-masks .ensures)
+returns-3 c = mask-entry _ _ _ (omega arith) (omega arith) (c .first-masks .ensures)
 
 pub first-mask-spec : {M : Type 1} → statement M
 first-mask-spec =
