@@ -7,10 +7,11 @@ use Prim.Native.Nat.{ℕ, _+_, _-_, _*_, _/_, _%_, _^_, _<_, _≤_}
 use native.Mathlib.Nat.{mod-eq-of-lt, lt-of-lt-of-le, zero-add}
 use native.Mathlib.Numerals.{add-one}
 use native.Mathlib.Omega.{arith}
-use borrow.Author.Tests.{le-leb, lt-leb, eq-eqb, ne-eqb, leb-true, ltb-true, eqb-true}
+use borrow.Author.Tests.{le-leb, lt-leb, le-ltb, lt-ltb, eq-eqb, ne-eqb, leb-true, ltb-true, eqb-true}
 use lib.Dec.{ltb, leb, eqb}
 use lib.Bits.{bitAnd}
 use lib.Pow.{pow-pos, pow-mono}
+use Rattle.map.specs.declared.kinds.Kind.{Kind}
 use Rattle.map.specs.declared.dots.Field.{Field}
 use Rattle.map.specs.declared.dots.Place.{Place}
 use Rattle.map.specs.declared.dots.Place.the-variants.{At, Absent}
@@ -21,9 +22,9 @@ use Rattle.host.specs.Numbered.{Numbered}
 use Rattle.map.specs.declared.refusals.Answer.{Answer}
 use Rattle.map.specs.declared.refusals.Answer.the-variants.{Accepted, Refused}
 use Rattle.map.specs.declared.refusals.Refusal.{Refusal}
-use Rattle.map.specs.declared.refusals.Refusal.the-variants.{Level, GroupOrState}
+use Rattle.map.specs.declared.refusals.Refusal.the-variants.{NotWritable, ReservedBit, Level, GroupOrState}
 use Rattle.map.specs.Refusals.{accepted, openAnswer, opens}
-use Rattle.map.specs.Map.{linesOf, columnsOf, dotIn, numberIn, dataMode, isWide, reservedOf, resetOf, isDot, addressOf, shiftOf, widthOf, placeAs, placeOf}
+use Rattle.map.specs.Map.{linesOf, columnsOf, dotIn, numberIn, dataMode, isWide, kindOf, reservedAs, reservedOf, writableOf, resetAs, resetOf, isDot, addressOf, shiftOf, widthOf, placeAs, placeOf}
 use Rattle.map.specs.MapLaws.{lines-most, dot-line, dot-sink}
 use Rattle.map.specs.PlaceLaws.{place-below, field-inside}
 use Rattle.host.specs.BitLaws.{three-parts, put-sum, put-byte, field-byte}
@@ -62,8 +63,31 @@ image-decides m b p settings image r o s e = rw (o, s) (sym e)
 
 -- ---- one byte
 
-pub fits-byte : (m a v k z : ℕ) → v < 256 → k ≡ reservedOf m a → z ≡ resetOf m a → okByte m a v ≡ eqb (bitAnd v k) (bitAnd z k)
-fits-byte m a v k z h ek ez = ok-masked m a v k z h (sym ek) (sym ez)
+pub mask-is : (kind : Kind) (m n cs a mask : ℕ) → kind ≡ kindOf a → n ≡ linesOf m → cs ≡ columnsOf m → mask ≡ reservedAs kind m n cs a →
+    mask ≡ reservedOf m a
+unfolding reservedOf
+mask-is kind m n cs a mask ek en ec e = e ∙ rw (ek, en, ec) refl
+
+pub reset-is : (kind : Kind) (m a reset : ℕ) → kind ≡ kindOf a → reset ≡ resetAs kind m a → reset ≡ resetOf m a
+unfolding resetOf
+reset-is kind m a reset ek e = e ∙ rw ek refl
+
+-- the answers to a byte, in the order of the refusals
+module _ (m a v mask : ℕ) (em : mask ≡ reservedOf m a) where
+  pub not-writable : 255 ≤ mask → Refused NotWritable ≡ cond (writableOf m a) (cond (okByte m a v) Accepted (Refused ReservedBit)) (Refused NotWritable)
+  unfolding writableOf
+  not-writable h = rw (sym em, le-ltb mask 255 h) refl
+
+  module _ (reset : ℕ) (h : mask < 255) (hv : v < 256) (er : reset ≡ resetOf m a) where
+    pub bit-differs : (bitAnd v mask ≡ bitAnd reset mask → ⊥) →
+        Refused ReservedBit ≡ cond (writableOf m a) (cond (okByte m a v) Accepted (Refused ReservedBit)) (Refused NotWritable)
+    unfolding writableOf
+    bit-differs n = rw (ok-masked m a v mask reset hv (sym em) (sym er), sym em, lt-ltb mask 255 h, ne-eqb _ _ n) refl
+
+    pub bits-kept : bitAnd v mask ≡ bitAnd reset mask →
+        Accepted ≡ cond (writableOf m a) (cond (okByte m a v) Accepted (Refused ReservedBit)) (Refused NotWritable)
+    unfolding writableOf
+    bits-kept e = rw (ok-masked m a v mask reset hv (sym em) (sym er), sym em, lt-ltb mask 255 h, eq-eqb _ _ e) refl
 
 -- ---- the data mode
 
