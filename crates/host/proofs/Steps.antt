@@ -7,15 +7,15 @@ use Prim.Native.Nat.{ℕ, _+_, _-_, _*_, _/_, _%_, _^_, _<_, _≤_}
 use native.Mathlib.Nat.{mod-eq-of-lt, lt-of-lt-of-le, zero-add}
 use native.Mathlib.Numerals.{add-one}
 use native.Mathlib.Omega.{arith}
-use borrow.Author.Tests.{le-leb, lt-leb, le-ltb, lt-ltb, eq-eqb, ne-eqb, leb-true, ltb-true, eqb-true}
-use lib.Dec.{ltb, leb, eqb}
+use borrow.Author.Tests.{le-leb, lt-leb, le-ltb, lt-ltb, eq-eqb, ne-eqb, leb-true, eqb-true}
+use lib.Dec.{leb, eqb}
 use lib.Bits.{bitAnd}
 use lib.Pow.{pow-pos, pow-mono}
 use Rattle.map.specs.declared.kinds.Kind.{Kind}
 use Rattle.map.specs.declared.dots.Field.{Field}
 use Rattle.map.specs.declared.dots.Place.{Place}
 use Rattle.map.specs.declared.dots.Place.the-variants.{At, Absent}
-use lib.ListN.{length, getD, set, length-set, List·getD-eq-default}
+use lib.ListN.{length, getD, set, length-set}
 use Rattle.map.specs.Lists.{allFrom}
 use Rattle.map.specs.ListLaws.{and-left, and-right, all-more, all-fails, all-at}
 use Rattle.host.specs.Numbered.{Numbered}
@@ -24,7 +24,7 @@ use Rattle.map.specs.declared.refusals.Answer.the-variants.{Accepted, Refused}
 use Rattle.map.specs.declared.refusals.Refusal.{Refusal}
 use Rattle.map.specs.declared.refusals.Refusal.the-variants.{NotWritable, ReservedBit, Level, GroupOrState}
 use Rattle.map.specs.Refusals.{accepted, openAnswer, opens}
-use Rattle.map.specs.Map.{linesOf, columnsOf, dotIn, numberIn, dataMode, isWide, kindOf, reservedAs, reservedOf, writableOf, resetAs, resetOf, isDot, addressOf, shiftOf, widthOf, placeAs, placeOf}
+use Rattle.map.specs.Map.{linesOf, columnsOf, numberIn, dataMode, isWide, kindOf, reservedAs, reservedOf, writableOf, resetAs, resetOf, isDot, addressOf, shiftOf, widthOf, placeAs, placeOf}
 use Rattle.map.specs.MapLaws.{lines-most, dot-line, dot-sink}
 use Rattle.map.specs.PlaceLaws.{place-below, field-inside}
 use Rattle.host.specs.BitLaws.{three-parts, put-sum, put-byte, field-byte}
@@ -33,6 +33,7 @@ use Rattle.map.specs.RefusalLaws.{opens-member, opens-bus, opens-pins}
 use Rattle.map.specs.ByteLaws.{writable-below}
 use Rattle.host.specs.declared.Record.{Record}
 use Rattle.host.specs.declared.Changed.{Changed}
+use Rattle.host.specs.SoundLaws.{number-small}
 use Rattle.host.specs.RecordLaws.{when-dot-refused, when-dot-accepted, register-taken, lamp-taken, field-taken, scene-taken}
 use Rattle.map.specs.ImageLaws.{ok-masked}
 use Rattle.host.specs.Record.{whenDot, recordOf, soundOf, wideOf, topLevel, opened, openState, openOf, soundAnswer, registerAnswer, lampAnswer, fieldAnswer, sceneAnswer, powerLostOf, putBits, putField, putLevel, wordAt, sceneCount, sceneDot, sceneLevel, sceneHasDot, sceneFits, sceneSized, putScene}
@@ -91,25 +92,14 @@ module _ (m a v mask : ℕ) (em : mask ≡ reservedOf m a) where
 
 -- ---- the data mode
 
-pub top-short : (settings : List ℕ) → length settings < 2 → topLevel settings ≡ 255
-unfolding topLevel wideOf isWide dataMode
-top-short settings h = rw (List·getD-eq-default settings 0 {n = 1} (omega arith)) refl
+-- r is what the test of the settings' data mode answers
+pub wide-is : (settings : List ℕ) (r : Bool) → r ≡ isWide (dataMode (getD settings 0x001 0)) → wideOf settings ≡ r
+unfolding wideOf
+wide-is settings r e = sym e
 
-pub narrow : (settings : List ℕ) → getD settings 1 0 / 2 % 4 < 2 → wideOf settings ≡ false
-unfolding wideOf isWide dataMode
-narrow settings h = lt-leb 2 (getD settings 1 0 / 2 % 4) h
-
-pub wide : (settings : List ℕ) → 2 ≤ getD settings 1 0 / 2 % 4 → wideOf settings ≡ true
-unfolding wideOf isWide dataMode
-wide settings h = le-leb 2 (getD settings 1 0 / 2 % 4) h
-
-pub top-narrow : (settings : List ℕ) → getD settings 1 0 / 2 % 4 < 2 → topLevel settings ≡ 255
+pub top-is : (settings : List ℕ) (r b : Bool) → r ≡ isWide (dataMode (getD settings 0x001 0)) → r ≡ b → cond b 65535 255 ≡ topLevel settings
 unfolding topLevel
-top-narrow settings h = rw (narrow settings h) refl
-
-pub top-wide : (settings : List ℕ) → 2 ≤ getD settings 1 0 / 2 % 4 → topLevel settings ≡ 65535
-unfolding topLevel
-top-wide settings h = rw (wide settings h) refl
+top-is settings r b e q = rw (wide-is settings r e, q) refl
 
 above-top : (settings : List ℕ) (top v : ℕ) → top ≡ topLevel settings → top < v → leb v (topLevel settings) ≡ false
 above-top settings top v e h = lt-leb v (topLevel settings) (subst (λ (x : ℕ). x < v) e h)
@@ -349,11 +339,6 @@ pub sized-length : (bytes : List ℕ) (n : ℕ) → sceneSized bytes ≡ true �
 sized-length bytes n e q = omega (arith, sized-facts bytes e .1)
 
 -- the dots of an accepted scene are numbers below 198
-number-small : (m d : ℕ) → numberIn (linesOf m) (columnsOf m) d ≡ true → d < 198
-unfolding numberIn dotIn
-number-small m d e =
-    omega (arith, ltb-true (d / 18) (linesOf m) (and-left (ltb (d / 18) (linesOf m)) _ e), lines-most m)
-
 pub scene-inside : (r : Record) (bytes : List ℕ) (x : Answer) → x ≡ sceneAnswer r bytes → accepted x ≡ true →
     (sceneSized bytes ≡ true) × Numbered bytes (sceneCount bytes)
 unfolding sceneHasDot

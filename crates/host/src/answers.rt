@@ -1,10 +1,11 @@
 // What each setting answers: the refusals in the order that the calls check them.
 ghost use mathlib.Core.Path.{_≡_};
 ghost use mathlib.Core.Bool.{cond};
+ghost use lib.ListN.{length};
 ghost use Rattle.host.specs.Record.{recordOf, soundOf, soundAnswer, registerAnswer, topLevel, whenDot, lampAnswer, fieldAnswer};
 ghost use Rattle.map.specs.declared.refusals.Answer.the-variants.{Accepted, Refused};
 ghost use Rattle.map.specs.declared.refusals.Refusal.the-variants.{NotWritable, ReservedBit};
-ghost use Rattle.map.specs.Map.{writableOf};
+ghost use Rattle.map.specs.Map.{dataMode, isWide, writableOf};
 ghost use Rattle.map.specs.Images.{okByte};
 use map::Answer;
 use map::Refusal;
@@ -22,7 +23,7 @@ pub(crate) fn sound<'a>(member: u8, bus: u8, pins: u8, settings: &'a [u8], image
     images::image_ok(member as usize, image)
 }
 
-pub(crate) fn unsound<'a>(
+pub(crate) fn sound_answer<'a>(
     member: u8,
     bus: u8,
     pins: u8,
@@ -72,14 +73,19 @@ pub(crate) fn register<'a>(
     byte(member as usize, address, value)
 }
 
+// Whether a byte of 001h has a data mode of 16-bit levels.
+pub(crate) fn is_wide(byte: u8) -> bool
+    ensures { λ r. ⌜ r ≡ isWide (dataMode byte) ⌝ }
+{
+    2 <= byte / 2 % 4
+}
+
 // The largest level that the data mode of the settings holds.
 pub(crate) fn top_level(settings: &[u8]) -> usize
+    requires { ⌜ length (now settings) ≡ 908 ⌝ }
     ensures { λ r. ⌜ r ≡ topLevel (now (settings .entry)) ⌝ }
 {
-    if settings.len() < 2 {
-        return 255;
-    }
-    if settings[1] / 2 % 4 < 2 { 255 } else { 65535 }
+    if is_wide(settings[0x001]) { 65535 } else { 255 }
 }
 
 // A sound record and a dot that its member has.
@@ -113,6 +119,7 @@ pub(crate) fn lamp<'a>(
     sink: usize,
     level: usize,
 ) -> Answer
+    requires { ⌜ length (now settings) ≡ 908 ⌝ }
     ensures { λ r. ⌜ r ≡ lampAnswer (recordOf member bus pins (now (settings .entry)) (now (image .entry))) line sink level ⌝ }
 {
     let answer = dot(member, bus, pins, settings, image, line, sink);

@@ -59,6 +59,7 @@ pub(crate) fn answer<'a>(
     image: &'a [u8],
     bytes: &[u8],
 ) -> Answer
+    requires { ⌜ length (now settings) ≡ 908 ⌝ }
     ensures { λ r. ⌜ r ≡ sceneAnswer (recordOf member bus pins (now (settings .entry)) (now (image .entry))) (now (bytes .entry)) ⌝ }
 {
     if !answers::sound(member, bus, pins, settings, image) {
@@ -88,7 +89,7 @@ fn store_all(settings: &mut [u8; 908], bytes: &[u8], n: usize)
     let mut entry: usize = 0;
     while entry < n {
         let level = word_at(bytes, 2 + n + 2 * entry);
-        store::level(settings, bytes[2 + entry] as usize, level);
+        store::put_level(settings, bytes[2 + entry] as usize, level);
         entry += 1;
     }
 }
