@@ -97,11 +97,11 @@ pub level-reads-back : (image : List ℕ) (d v : ℕ) → length image ≡ 908 �
 unfolding levelOf topLevel
 level-reads-back image d v size hd hv = rw (level-mode image d v) (go (wideOf image) refl hv)
   where
-    two-bytes : (v : ℕ) → v ≤ 65535 → v % 256 + 256 * (v / 256 % 256) ≡ v
-    two-bytes v h = omega arith
+    two-bytes : (x : ℕ) → x ≤ 65535 → x % 256 + 256 * (x / 256 % 256) ≡ x
+    two-bytes x h = omega arith
 
-    one-byte : (v : ℕ) → v ≤ 255 → v % 256 ≡ v
-    one-byte v h = omega arith
+    one-byte : (x : ℕ) → x ≤ 255 → x % 256 ≡ x
+    one-byte x h = omega arith
 
     go : (b : Bool) → wideOf image ≡ b → v ≤ cond b 65535 255 →
         cond b (getD (putLevel image d v) (0x200 + 2 * d) 0 + 256 * getD (putLevel image d v) (0x200 + 2 * d + 1) 0) (getD (putLevel image d v) (0x200 + d) 0) ≡ v
