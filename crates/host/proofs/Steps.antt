@@ -160,14 +160,14 @@ weight-is k bit e = ap (λ (x : ℕ). 2 ^ x) (sym e)
 pub is-seven : (b : ℕ) → b < 8 → (b ≡ 0 → ⊥) → (b ≡ 1 → ⊥) → (b ≡ 2 → ⊥) → (b ≡ 3 → ⊥) → (b ≡ 4 → ⊥) → (b ≡ 5 → ⊥) → (b ≡ 6 → ⊥) → b ≡ 7
 is-seven b h n0 n1 n2 n3 n4 n5 n6 = four (low b n0 n1 n2)
   where
-    low : (b : ℕ) → (b ≡ 0 → ⊥) → (b ≡ 1 → ⊥) → (b ≡ 2 → ⊥) → 3 ≤ b
-    low b p q r = omega arith
+    low : (x : ℕ) → (x ≡ 0 → ⊥) → (x ≡ 1 → ⊥) → (x ≡ 2 → ⊥) → 3 ≤ x
+    low x p q r = omega arith
 
-    middle : (b : ℕ) → 3 ≤ b → (b ≡ 3 → ⊥) → (b ≡ 4 → ⊥) → 5 ≤ b
-    middle b l p q = omega arith
+    middle : (x : ℕ) → 3 ≤ x → (x ≡ 3 → ⊥) → (x ≡ 4 → ⊥) → 5 ≤ x
+    middle x l p q = omega arith
 
-    high : (b : ℕ) → 5 ≤ b → b < 8 → (b ≡ 5 → ⊥) → (b ≡ 6 → ⊥) → b ≡ 7
-    high b l u p q = omega arith
+    high : (x : ℕ) → 5 ≤ x → x < 8 → (x ≡ 5 → ⊥) → (x ≡ 6 → ⊥) → x ≡ 7
+    high x l u p q = omega arith
 
     four : 3 ≤ b → b ≡ 7
     four l = high b (middle b l n3 n4) h n5 n6
@@ -213,8 +213,8 @@ at-place f m l s a x place d ep ea =
 small-value : (v w : ℕ) → w < 8 → v < 2 ^ w → v % 256 ≡ v
 small-value v w hw hv = mod-eq-of-lt (lt-of-lt-of-le hv (pow-mono (less w hw)))
   where
-    less : (w : ℕ) → w < 8 → w ≤ 8
-    less w h = omega arith
+    less : (x : ℕ) → x < 8 → x ≤ 8
+    less x h = omega arith
 
 pub field-asked : (f : Field) (l s v a x w : ℕ) → widthOf f < 8 → v < 2 ^ widthOf f → w ≡ widthOf f → Placed f l s a x →
     (w < 8) × (x + w ≤ 8) × (0 < w) × (v % 256 < 2 ^ w)
