@@ -7,23 +7,24 @@ use Prim.Native.Nat.{ℕ, _+_, _-_, _*_, _/_, _%_, _^_, _<_, _≤_}
 use native.Mathlib.Nat.{mod-eq-of-lt, lt-of-lt-of-le, zero-add}
 use native.Mathlib.Numerals.{add-one}
 use native.Mathlib.Omega.{arith}
-use borrow.Author.Tests.{le-leb, lt-leb, eq-eqb, ne-eqb, leb-true, ltb-true, eqb-true}
-use lib.Dec.{ltb, leb, eqb}
+use borrow.Author.Tests.{le-leb, lt-leb, le-ltb, lt-ltb, eq-eqb, ne-eqb, leb-true, eqb-true}
+use lib.Dec.{leb, eqb}
 use lib.Bits.{bitAnd}
 use lib.Pow.{pow-pos, pow-mono}
+use Rattle.map.specs.declared.kinds.Kind.{Kind}
 use Rattle.map.specs.declared.dots.Field.{Field}
 use Rattle.map.specs.declared.dots.Place.{Place}
 use Rattle.map.specs.declared.dots.Place.the-variants.{At, Absent}
-use lib.ListN.{length, getD, set, length-set, List·getD-eq-default}
+use lib.ListN.{length, getD, set, length-set}
 use Rattle.map.specs.Lists.{allFrom}
 use Rattle.map.specs.ListLaws.{and-left, and-right, all-more, all-fails, all-at}
 use Rattle.host.specs.Numbered.{Numbered}
 use Rattle.map.specs.declared.refusals.Answer.{Answer}
 use Rattle.map.specs.declared.refusals.Answer.the-variants.{Accepted, Refused}
 use Rattle.map.specs.declared.refusals.Refusal.{Refusal}
-use Rattle.map.specs.declared.refusals.Refusal.the-variants.{Level, GroupOrState}
+use Rattle.map.specs.declared.refusals.Refusal.the-variants.{NotWritable, ReservedBit, NoDot, Level, GroupOrState}
 use Rattle.map.specs.Refusals.{accepted, openAnswer, opens}
-use Rattle.map.specs.Map.{linesOf, columnsOf, dotIn, numberIn, dataMode, isWide, reservedOf, resetOf, isDot, addressOf, shiftOf, widthOf, placeAs, placeOf}
+use Rattle.map.specs.Map.{linesOf, columnsOf, numberIn, dataMode, isWide, kindOf, reservedAs, reservedOf, writableOf, resetAs, resetOf, isDot, addressOf, shiftOf, widthOf, placeAs, placeOf}
 use Rattle.map.specs.MapLaws.{lines-most, dot-line, dot-sink}
 use Rattle.map.specs.PlaceLaws.{place-below, field-inside}
 use Rattle.host.specs.BitLaws.{three-parts, put-sum, put-byte, field-byte}
@@ -32,9 +33,10 @@ use Rattle.map.specs.RefusalLaws.{opens-member, opens-bus, opens-pins}
 use Rattle.map.specs.ByteLaws.{writable-below}
 use Rattle.host.specs.declared.Record.{Record}
 use Rattle.host.specs.declared.Changed.{Changed}
+use Rattle.host.specs.SoundLaws.{number-small}
 use Rattle.host.specs.RecordLaws.{when-dot-refused, when-dot-accepted, register-taken, lamp-taken, field-taken, scene-taken}
 use Rattle.map.specs.ImageLaws.{ok-masked}
-use Rattle.host.specs.Record.{whenDot, recordOf, soundOf, wideOf, topLevel, opened, openState, openOf, soundAnswer, registerAnswer, lampAnswer, fieldAnswer, sceneAnswer, powerLostOf, putBits, putField, putLevel, wordAt, sceneCount, sceneDot, sceneLevel, sceneHasDot, sceneFits, sceneSized, putScene}
+use Rattle.host.specs.Record.{whenSound, whenDot, recordOf, soundOf, wideOf, topLevel, opened, openState, openOf, soundAnswer, registerAnswer, lampAnswer, fieldAnswer, sceneAnswer, powerLostOf, putBits, putField, putLevel, wordAt, sceneCount, sceneDot, sceneLevel, sceneHasDot, sceneFits, sceneSized, putScene}
 
 -- ---- soundness
 
@@ -62,30 +64,42 @@ image-decides m b p settings image r o s e = rw (o, s) (sym e)
 
 -- ---- one byte
 
-pub fits-byte : (m a v k z : ℕ) → v < 256 → k ≡ reservedOf m a → z ≡ resetOf m a → okByte m a v ≡ eqb (bitAnd v k) (bitAnd z k)
-fits-byte m a v k z h ek ez = ok-masked m a v k z h (sym ek) (sym ez)
+pub mask-is : (kind : Kind) (m n cs a mask : ℕ) → kind ≡ kindOf a → n ≡ linesOf m → cs ≡ columnsOf m → mask ≡ reservedAs kind m n cs a →
+    mask ≡ reservedOf m a
+unfolding reservedOf
+mask-is kind m n cs a mask ek en ec e = e ∙ rw (ek, en, ec) refl
+
+pub reset-is : (kind : Kind) (m a reset : ℕ) → kind ≡ kindOf a → reset ≡ resetAs kind m a → reset ≡ resetOf m a
+unfolding resetOf
+reset-is kind m a reset ek e = e ∙ rw ek refl
+
+-- the answers to a byte, in the order of the refusals
+module _ (m a v mask : ℕ) (em : mask ≡ reservedOf m a) where
+  pub not-writable : 255 ≤ mask → Refused NotWritable ≡ cond (writableOf m a) (cond (okByte m a v) Accepted (Refused ReservedBit)) (Refused NotWritable)
+  unfolding writableOf
+  not-writable h = rw (sym em, le-ltb mask 255 h) refl
+
+  module _ (reset : ℕ) (h : mask < 255) (hv : v < 256) (er : reset ≡ resetOf m a) where
+    pub bit-differs : (bitAnd v mask ≡ bitAnd reset mask → ⊥) →
+        Refused ReservedBit ≡ cond (writableOf m a) (cond (okByte m a v) Accepted (Refused ReservedBit)) (Refused NotWritable)
+    unfolding writableOf
+    bit-differs n = rw (ok-masked m a v mask reset hv (sym em) (sym er), sym em, lt-ltb mask 255 h, ne-eqb _ _ n) refl
+
+    pub bits-kept : bitAnd v mask ≡ bitAnd reset mask →
+        Accepted ≡ cond (writableOf m a) (cond (okByte m a v) Accepted (Refused ReservedBit)) (Refused NotWritable)
+    unfolding writableOf
+    bits-kept e = rw (ok-masked m a v mask reset hv (sym em) (sym er), sym em, lt-ltb mask 255 h, eq-eqb _ _ e) refl
 
 -- ---- the data mode
 
-pub top-short : (settings : List ℕ) → length settings < 2 → topLevel settings ≡ 255
-unfolding topLevel wideOf isWide dataMode
-top-short settings h = rw (List·getD-eq-default settings 0 {n = 1} (omega arith)) refl
+-- r is what the test of the settings' data mode answers
+pub wide-is : (settings : List ℕ) (r : Bool) → r ≡ isWide (dataMode (getD settings 0x001 0)) → wideOf settings ≡ r
+unfolding wideOf
+wide-is settings r e = sym e
 
-pub narrow : (settings : List ℕ) → getD settings 1 0 / 2 % 4 < 2 → wideOf settings ≡ false
-unfolding wideOf isWide dataMode
-narrow settings h = lt-leb 2 (getD settings 1 0 / 2 % 4) h
-
-pub wide : (settings : List ℕ) → 2 ≤ getD settings 1 0 / 2 % 4 → wideOf settings ≡ true
-unfolding wideOf isWide dataMode
-wide settings h = le-leb 2 (getD settings 1 0 / 2 % 4) h
-
-pub top-narrow : (settings : List ℕ) → getD settings 1 0 / 2 % 4 < 2 → topLevel settings ≡ 255
+pub top-is : (settings : List ℕ) (r b : Bool) → r ≡ isWide (dataMode (getD settings 0x001 0)) → r ≡ b → cond b 65535 255 ≡ topLevel settings
 unfolding topLevel
-top-narrow settings h = rw (narrow settings h) refl
-
-pub top-wide : (settings : List ℕ) → 2 ≤ getD settings 1 0 / 2 % 4 → topLevel settings ≡ 65535
-unfolding topLevel
-top-wide settings h = rw (wide settings h) refl
+top-is settings r b e q = rw (wide-is settings r e, q) refl
 
 above-top : (settings : List ℕ) (top v : ℕ) → top ≡ topLevel settings → top < v → leb v (topLevel settings) ≡ false
 above-top settings top v e h = lt-leb v (topLevel settings) (subst (λ (x : ℕ). x < v) e h)
@@ -146,14 +160,14 @@ weight-is k bit e = ap (λ (x : ℕ). 2 ^ x) (sym e)
 pub is-seven : (b : ℕ) → b < 8 → (b ≡ 0 → ⊥) → (b ≡ 1 → ⊥) → (b ≡ 2 → ⊥) → (b ≡ 3 → ⊥) → (b ≡ 4 → ⊥) → (b ≡ 5 → ⊥) → (b ≡ 6 → ⊥) → b ≡ 7
 is-seven b h n0 n1 n2 n3 n4 n5 n6 = four (low b n0 n1 n2)
   where
-    low : (b : ℕ) → (b ≡ 0 → ⊥) → (b ≡ 1 → ⊥) → (b ≡ 2 → ⊥) → 3 ≤ b
-    low b p q r = omega arith
+    low : (x : ℕ) → (x ≡ 0 → ⊥) → (x ≡ 1 → ⊥) → (x ≡ 2 → ⊥) → 3 ≤ x
+    low x p q r = omega arith
 
-    middle : (b : ℕ) → 3 ≤ b → (b ≡ 3 → ⊥) → (b ≡ 4 → ⊥) → 5 ≤ b
-    middle b l p q = omega arith
+    middle : (x : ℕ) → 3 ≤ x → (x ≡ 3 → ⊥) → (x ≡ 4 → ⊥) → 5 ≤ x
+    middle x l p q = omega arith
 
-    high : (b : ℕ) → 5 ≤ b → b < 8 → (b ≡ 5 → ⊥) → (b ≡ 6 → ⊥) → b ≡ 7
-    high b l u p q = omega arith
+    high : (x : ℕ) → 5 ≤ x → x < 8 → (x ≡ 5 → ⊥) → (x ≡ 6 → ⊥) → x ≡ 7
+    high x l u p q = omega arith
 
     four : 3 ≤ b → b ≡ 7
     four l = high b (middle b l n3 n4) h n5 n6
@@ -199,8 +213,8 @@ at-place f m l s a x place d ep ea =
 small-value : (v w : ℕ) → w < 8 → v < 2 ^ w → v % 256 ≡ v
 small-value v w hw hv = mod-eq-of-lt (lt-of-lt-of-le hv (pow-mono (less w hw)))
   where
-    less : (w : ℕ) → w < 8 → w ≤ 8
-    less w h = omega arith
+    less : (x : ℕ) → x < 8 → x ≤ 8
+    less x h = omega arith
 
 pub field-asked : (f : Field) (l s v a x w : ℕ) → widthOf f < 8 → v < 2 ^ widthOf f → w ≡ widthOf f → Placed f l s a x →
     (w < 8) × (x + w ≤ 8) × (0 < w) × (v % 256 < 2 ^ w)
@@ -306,13 +320,22 @@ unfolding sceneSized
 scene-sized bytes n h e q = rw (le-leb 2 (length bytes) h, sym e) (eq-eqb (length bytes) (2 + 3 * n) q)
 
 -- a test over n entries, where n is the scene's count
-pub counted : (f : ℕ → Bool) (bytes : List ℕ) (n : ℕ) (r : Bool) → n ≡ sceneCount bytes → r ≡ allFrom f 0 n → allFrom f 0 (sceneCount bytes) ≡ r
+counted : (f : ℕ → Bool) (bytes : List ℕ) (n : ℕ) (r : Bool) → n ≡ sceneCount bytes → r ≡ allFrom f 0 n → allFrom f 0 (sceneCount bytes) ≡ r
 counted f bytes n r e q = ap (allFrom f 0) (sym e) ∙ sym q
 
-pub levels-counted : (settings bytes : List ℕ) (top n : ℕ) (r : Bool) → n ≡ sceneCount bytes → top ≡ topLevel settings →
+levels-counted : (settings bytes : List ℕ) (top n : ℕ) (r : Bool) → n ≡ sceneCount bytes → top ≡ topLevel settings →
     r ≡ allFrom (sceneFits top bytes) 0 n → allFrom (sceneFits (topLevel settings) bytes) 0 (sceneCount bytes) ≡ r
 levels-counted settings bytes top n r e t q =
     ap (λ (x : ℕ). allFrom (sceneFits x bytes) 0 (sceneCount bytes)) (sym t) ∙ counted (sceneFits top bytes) bytes n r e q
+
+-- a sound record and a scene of the right length: what its dots and levels decide
+pub scene-decided : (r : Record) (bytes : List ℕ) (top n : ℕ) (dots levels : Bool) (answer : Answer) → soundOf r ≡ true → sceneSized bytes ≡ true →
+    n ≡ sceneCount bytes → top ≡ topLevel (r .settings) → dots ≡ allFrom (sceneHasDot (r .member) bytes) 0 n → levels ≡ allFrom (sceneFits top bytes) 0 n →
+    answer ≡ cond dots (cond levels Accepted (Refused Level)) (Refused NoDot) → answer ≡ sceneAnswer r bytes
+unfolding sceneAnswer whenSound
+scene-decided r bytes top n dots levels answer s z e t d l q =
+    q
+    ∙ sym (rw (s, z, counted (sceneHasDot (r .member) bytes) bytes n dots e d, levels-counted (r .settings) bytes top n levels e t l) refl)
 
 pub sized-facts : (bytes : List ℕ) → sceneSized bytes ≡ true → (2 ≤ length bytes) × (length bytes ≡ 2 + 3 * sceneCount bytes)
 unfolding sceneSized
@@ -325,11 +348,6 @@ pub sized-length : (bytes : List ℕ) (n : ℕ) → sceneSized bytes ≡ true �
 sized-length bytes n e q = omega (arith, sized-facts bytes e .1)
 
 -- the dots of an accepted scene are numbers below 198
-number-small : (m d : ℕ) → numberIn (linesOf m) (columnsOf m) d ≡ true → d < 198
-unfolding numberIn dotIn
-number-small m d e =
-    omega (arith, ltb-true (d / 18) (linesOf m) (and-left (ltb (d / 18) (linesOf m)) _ e), lines-most m)
-
 pub scene-inside : (r : Record) (bytes : List ℕ) (x : Answer) → x ≡ sceneAnswer r bytes → accepted x ≡ true →
     (sceneSized bytes ≡ true) × Numbered bytes (sceneCount bytes)
 unfolding sceneHasDot

@@ -54,9 +54,11 @@ module _ (p w byte : ℕ) where
 
 -- ---- masks
 
+-- the bits that a byte and a mask have in common above and below the field
 common : ℕ → ℕ → ℕ → ℕ → ℕ
 common p w byte mask = (bitAnd (byte / 2 ^ (p + w)) (mask / 2 ^ (p + w)) * 2 ^ w + 0) * 2 ^ p + bitAnd (byte % 2 ^ p) (mask % 2 ^ p)
 
+-- all that a mask without the field sees
 seen : (p w byte v mask : ℕ) → v < 2 ^ w → bitAnd (putBits p w byte v) (putBits p w mask 0) ≡ common p w byte mask
 unfolding putBits common
 seen p w byte v mask h =

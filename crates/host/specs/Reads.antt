@@ -12,5 +12,6 @@ use Rattle.host.specs.Record.{wideOf}
 unfoldable pub levelOf : List ℕ → ℕ → ℕ
 levelOf image d = cond (wideOf image) (getD image (0x200 + 2 * d) 0 + 256 * getD image (0x200 + 2 * d + 1) 0) (getD image (0x200 + d) 0)
 
+-- "group, two bits at 2 × (sink mod 4)" of its byte; "switch, bit sink mod 8" of its byte
 unfoldable pub fieldOf : Field → List ℕ → ℕ → ℕ → ℕ
 fieldOf f image l s = getD image (addressOf f l s) 0 / 2 ^ shiftOf f s % 2 ^ widthOf f

@@ -24,6 +24,7 @@ passed true a x e = (refl, e)
 passed false a x e = absurd (false≢true e)
 
 module _ (r : Record) where
+  -- an accepted Register meets none of the conditions of 14, 4 and 5
   pub record RegisterTaken (a v : ℕ) : Type 0 where
     pub sound : soundOf r ≡ true
     pub writable : writableOf (r .member) a ≡ true
@@ -36,6 +37,7 @@ module _ (r : Record) where
       let w = passed (writableOf (r .member) a) _ NotWritable (s .1) in
       record { sound = s .0; writable = w .0; fits = passed (okByte (r .member) a v) Accepted ReservedBit (w .1) .0 }
 
+  -- an accepted Lamp meets none of the conditions of 14, 6 and 7
   pub record LampTaken (l s v : ℕ) : Type 0 where
     pub sound : soundOf r ≡ true
     pub dot : isDot (r .member) l s ≡ true
@@ -48,6 +50,7 @@ module _ (r : Record) where
       let d = passed (isDot (r .member) l s) _ NoDot (p .1) in
       record { sound = p .0; dot = d .0; fits = leb-true v (topLevel (r .settings)) (passed (leb v (topLevel (r .settings))) Accepted Level (d .1) .0) }
 
+  -- an accepted Group or Switch, whose largest value is top, meets none of the conditions of 14, 6 and 8
   pub record FieldTaken (l s v top : ℕ) : Type 0 where
     pub sound : soundOf r ≡ true
     pub dot : isDot (r .member) l s ≡ true
@@ -60,6 +63,7 @@ module _ (r : Record) where
       let d = passed (isDot (r .member) l s) _ NoDot (p .1) in
       record { sound = p .0; dot = d .0; fits = leb-true v top (passed (leb v top) Accepted GroupOrState (d .1) .0) }
 
+  -- an accepted Scene meets none of the conditions of 14, 9, 6 and 7
   pub record SceneTaken (bytes : List ℕ) : Type 0 where
     pub sound : soundOf r ≡ true
     pub sized : sceneSized bytes ≡ true

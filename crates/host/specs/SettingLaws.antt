@@ -1,23 +1,27 @@
 -- What the calls change and what they leave: settings take exactly what their call puts there, and are read back.
 -- Assumes nothing.
-use mathlib.Core.Path.{_≡_, refl, ap, _∙_}
+use mathlib.Core.Path.{_≡_, refl, sym, ap, _∙_}
 use mathlib.Core.Bool.{Bool, true, false, cond}
 use mathlib.Core.List.{List}
-use Prim.Native.Nat.{ℕ, _+_, _*_, _/_, _%_, _^_, _<_, _≤_}
+use Prim.Native.Nat.{ℕ, suc, _+_, _*_, _/_, _%_, _^_, _<_, _≤_}
 use native.Mathlib.Omega.{arith}
 use lib.ListN.{length, getD, set, length-set}
-use lib.Seq.{getD-set-same, getD-set-other}
+use lib.Seq.{getD-set-same, getD-set-other, set-set, set-comm}
 use Rattle.map.specs.declared.refusals.Answer.{Answer}
 use Rattle.map.specs.declared.dots.Field.{Field}
 use Rattle.map.specs.declared.dots.Field.the-variants.{Group, Switch}
 use Rattle.map.specs.Refusals.{accepted}
 use Rattle.map.specs.Map.{dotNumber, addressOf, shiftOf, widthOf, dataMode, isWide}
+use Rattle.map.specs.MapLaws.{lines-most, dot-line, dot-sink}
+use Rattle.map.specs.PlaceLaws.{dot-number, place-below}
 use Rattle.map.specs.Images.{resetImage}
 use Rattle.host.specs.declared.Record.{Record}
 use Rattle.host.specs.declared.Changed.{Changed}
-use Rattle.host.specs.Record.{recordOf, settled, registerAnswer, registerOf, wideOf, topLevel, lampAnswer, putLevel, lampOf, fieldAnswer, putField, groupOf, switchOf, sceneCount, putScene, sceneAnswer, sceneOf, soundAnswer, powerLostOf}
+use Rattle.host.specs.Record.{recordOf, settled, registerAnswer, registerOf, wideOf, topLevel, lampAnswer, putLevel, lampOf, fieldAnswer, putBits, putField, groupOf, switchOf, sceneCount, putScene, sceneAnswer, sceneOf, soundAnswer, powerLostOf}
 use Rattle.host.specs.Reads.{levelOf, fieldOf}
-use Rattle.host.specs.BitLaws.{put-read}
+use Rattle.host.specs.BitLaws.{put-read, put-last}
+use Rattle.host.specs.RecordLaws.{lamp-taken, field-taken}
+use Rattle.host.specs.SoundLaws.{sound-is, group-width, switch-width}
 
 -- ---- a setting changes the settings alone
 
@@ -61,9 +65,9 @@ module _ (r : Record) where
   unfolding powerLostOf
   power-refuses e = rw e refl
 
--- ---- what is put is read back
+-- ---- a level and a field of an image: what is put is read back, and the last one put stands
 
--- a level moves no other register than its PWM bytes, so the data mode stays
+-- a level moves no other register than its PWM bytes
 pub level-elsewhere : (image : List ℕ) (d v a : ℕ) → a < 0x200 → getD (putLevel image d v) a 0 ≡ getD image a 0
 unfolding putLevel
 level-elsewhere image d v a h = go (wideOf image)
@@ -74,6 +78,7 @@ level-elsewhere image d v a h = go (wideOf image)
         ∙ getD-set-other image (0x200 + 2 * d) a (v % 256) 0 (λ e. omega arith)
     go false = getD-set-other image (0x200 + d) a (v % 256) 0 (λ e. omega arith)
 
+-- so the image's data mode stays
 pub level-mode : (image : List ℕ) (d v : ℕ) → wideOf (putLevel image d v) ≡ wideOf image
 unfolding wideOf
 level-mode image d v = ap (λ (x : ℕ). isWide (dataMode x)) (level-elsewhere image d v 0x001 (omega arith))
@@ -87,15 +92,16 @@ pub level-narrow : (image : List ℕ) (d v : ℕ) → wideOf image ≡ false →
 unfolding putLevel
 level-narrow image d v e = rw e refl
 
-pub lamp-reads-back : (image : List ℕ) (d v : ℕ) → length image ≡ 908 → d < 198 → v ≤ topLevel image → levelOf (putLevel image d v) d ≡ v
+-- what is put is read back, in the image's own data mode
+pub level-reads-back : (image : List ℕ) (d v : ℕ) → length image ≡ 908 → d < 198 → v ≤ topLevel image → levelOf (putLevel image d v) d ≡ v
 unfolding levelOf topLevel
-lamp-reads-back image d v size hd hv = rw (level-mode image d v) (go (wideOf image) refl hv)
+level-reads-back image d v size hd hv = rw (level-mode image d v) (go (wideOf image) refl hv)
   where
-    two-bytes : (v : ℕ) → v ≤ 65535 → v % 256 + 256 * (v / 256 % 256) ≡ v
-    two-bytes v h = omega arith
+    two-bytes : (x : ℕ) → x ≤ 65535 → x % 256 + 256 * (x / 256 % 256) ≡ x
+    two-bytes x h = omega arith
 
-    one-byte : (v : ℕ) → v ≤ 255 → v % 256 ≡ v
-    one-byte v h = omega arith
+    one-byte : (x : ℕ) → x ≤ 255 → x % 256 ≡ x
+    one-byte x h = omega arith
 
     go : (b : Bool) → wideOf image ≡ b → v ≤ cond b 65535 255 →
         cond b (getD (putLevel image d v) (0x200 + 2 * d) 0 + 256 * getD (putLevel image d v) (0x200 + 2 * d + 1) 0) (getD (putLevel image d v) (0x200 + d) 0) ≡ v
@@ -109,8 +115,85 @@ lamp-reads-back image d v size hd hv = rw (level-mode image d v) (go (wideOf ima
         ) (two-bytes v h)
     go false e h = rw (level-narrow image d v e, getD-set-same image (0x200 + d) (v % 256) 0 (omega arith)) (one-byte v h)
 
+-- the level of any other dot stays
+pub level-other : (image : List ℕ) (d v e : ℕ) → (e ≡ d → ⊥) → levelOf (putLevel image d v) e ≡ levelOf image e
+unfolding levelOf
+level-other image d v e n = rw (level-mode image d v) (go (wideOf image) refl)
+  where
+    go : (b : Bool) → wideOf image ≡ b →
+        cond b (getD (putLevel image d v) (0x200 + 2 * e) 0 + 256 * getD (putLevel image d v) (0x200 + 2 * e + 1) 0) (getD (putLevel image d v) (0x200 + e) 0)
+        ≡ cond b (getD image (0x200 + 2 * e) 0 + 256 * getD image (0x200 + 2 * e + 1) 0) (getD image (0x200 + e) 0)
+    go true q =
+        let first : List ℕ = set image (0x200 + 2 * d) (v % 256) in
+        rw (
+          level-wide image d v q,
+          getD-set-other first (0x200 + 2 * d + 1) (0x200 + 2 * e) (v / 256 % 256) 0 (λ x. omega arith),
+          getD-set-other image (0x200 + 2 * d) (0x200 + 2 * e) (v % 256) 0 (λ x. n (omega arith)),
+          getD-set-other first (0x200 + 2 * d + 1) (0x200 + 2 * e + 1) (v / 256 % 256) 0 (λ x. n (omega arith)),
+          getD-set-other image (0x200 + 2 * d) (0x200 + 2 * e + 1) (v % 256) 0 (λ x. omega arith),
+        ) refl
+    go false q = rw (level-narrow image d v q, getD-set-other image (0x200 + d) (0x200 + e) (v % 256) 0 (λ x. n (omega arith))) refl
+
+-- of two levels for one dot the later one stands
+pub level-last : (image : List ℕ) (d v w : ℕ) → putLevel (putLevel image d v) d w ≡ putLevel image d w
+level-last image d v w = go (wideOf image) refl
+  where
+    twice : (l : List ℕ) (a b c x y : ℕ) → set (set (set (set l a b) (a + 1) c) a x) (a + 1) y ≡ set (set l a x) (a + 1) y
+    twice l a b c x y =
+        ap (λ (z : List ℕ). set z (a + 1) y) (set-comm (set l a b) (a + 1) a c x (λ q. omega arith) ∙ ap (λ (z : List ℕ). set z (a + 1) c) (set-set l a b x))
+        ∙ set-set (set l a x) (a + 1) c y
+
+    go : (b : Bool) → wideOf image ≡ b → putLevel (putLevel image d v) d w ≡ putLevel image d w
+    go true e =
+        level-wide (putLevel image d v) d w (level-mode image d v ∙ e)
+        ∙ ap (λ (l : List ℕ). set (set l (0x200 + 2 * d) (w % 256)) (0x200 + 2 * d + 1) (w / 256 % 256)) (level-wide image d v e)
+        ∙ twice image (0x200 + 2 * d) (v % 256) (v / 256 % 256) (w % 256) (w / 256 % 256)
+        ∙ sym (level-wide image d w e)
+    go false e =
+        level-narrow (putLevel image d v) d w (level-mode image d v ∙ e)
+        ∙ ap (λ (l : List ℕ). set l (0x200 + d) (w % 256)) (level-narrow image d v e)
+        ∙ set-set image (0x200 + d) (v % 256) (w % 256)
+        ∙ sym (level-narrow image d w e)
+
+-- what is put is read back
 pub field-reads-back : (f : Field) (image : List ℕ) (l s v : ℕ) → addressOf f l s < length image → v < 2 ^ widthOf f → fieldOf f (putField f image l s v) l s ≡ v
 unfolding fieldOf putField
 field-reads-back f image l s v h hv =
     ap (λ (x : ℕ). x / 2 ^ shiftOf f s % 2 ^ widthOf f) (getD-set-same image (addressOf f l s) _ 0 h)
     ∙ put-read (shiftOf f s) (widthOf f) (getD image (addressOf f l s) 0) v hv
+
+-- of two values for one field the later one stands
+pub field-last : (f : Field) (image : List ℕ) (l s v w : ℕ) → addressOf f l s < length image → v < 2 ^ widthOf f →
+    putField f (putField f image l s v) l s w ≡ putField f image l s w
+unfolding putField
+field-last f image l s v w h hv =
+    set-set image (addressOf f l s) (putBits (shiftOf f s) (widthOf f) (getD image (addressOf f l s) 0) v) _
+    ∙ ap (set image (addressOf f l s))
+    (ap (λ (x : ℕ). putBits (shiftOf f s) (widthOf f) x w) (getD-set-same image (addressOf f l s) _ 0 h)
+    ∙ put-last (shiftOf f s) (widthOf f) (getD image (addressOf f l s) 0) v hv w)
+
+-- ---- an accepted call is read back
+
+module _ (r : Record) (l s v : ℕ) where
+  -- an accepted Lamp reads back its level, in the data mode of the settings
+  pub lamp-reads-back : accepted (lampAnswer r l s v) ≡ true → levelOf (lampOf r l s v .state .settings) (dotNumber l s) ≡ v
+  lamp-reads-back e =
+      let t = lamp-taken r l s v e in
+      ap (λ (x : Record). levelOf (x .settings) (dotNumber l s)) (lamp-sets r l s v .accepts e)
+      ∙ level-reads-back (r .settings) (dotNumber l s) v (sound-is r (t .sound) .settings .size) (dot-number (r .member) l s (t .dot)) (t .fits)
+
+  -- a field whose largest value is top
+  put-reads-back : (f : Field) (top : ℕ) → 2 ^ widthOf f ≡ suc top → accepted (fieldAnswer r l s v top) ≡ true → fieldOf f (putField f (r .settings) l s v) l s ≡ v
+  put-reads-back f top w e =
+      let t = field-taken r l s v top e in
+      field-reads-back f (r .settings) l s v
+      (omega (arith, sound-is r (t .sound) .settings .size, place-below f l s (omega (arith, dot-line (r .member) l s (t .dot), lines-most (r .member))) (dot-sink (r .member) l s (t .dot))))
+      (omega (arith, t .fits))
+
+  -- an accepted Group reads back its group
+  pub group-reads-back : accepted (fieldAnswer r l s v 3) ≡ true → fieldOf Group (groupOf r l s v .state .settings) l s ≡ v
+  group-reads-back e = ap (λ (x : Record). fieldOf Group (x .settings) l s) (group-sets r l s v .accepts e) ∙ put-reads-back Group 3 group-width e
+
+  -- an accepted Switch reads back its state
+  pub switch-reads-back : accepted (fieldAnswer r l s v 1) ≡ true → fieldOf Switch (switchOf r l s v .state .settings) l s ≡ v
+  switch-reads-back e = ap (λ (x : Record). fieldOf Switch (x .settings) l s) (switch-sets r l s v .accepts e) ∙ put-reads-back Switch 1 switch-width e

@@ -116,11 +116,11 @@ field-image f m image l s v i hw hv e =
       kept = put-unseen (shiftOf f s) (widthOf f) (getD image (addressOf f l s) 0) v (reservedOf m (addressOf f l s)) hv e ∙ i .fits (addressOf f l s) h .kept;
     })
 
-group-width : 2 ^ widthOf Group ≡ 4
+pub group-width : 2 ^ widthOf Group ≡ 4
 unfolding widthOf
 group-width = refl
 
-switch-width : 2 ^ widthOf Switch ≡ 2
+pub switch-width : 2 ^ widthOf Switch ≡ 2
 unfolding widthOf
 switch-width = refl
 

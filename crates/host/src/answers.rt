@@ -1,7 +1,11 @@
 // What each setting answers: the refusals in the order that the calls check them.
 ghost use mathlib.Core.Path.{_≡_};
+ghost use mathlib.Core.Bool.{cond};
+ghost use lib.ListN.{length};
 ghost use Rattle.host.specs.Record.{recordOf, soundOf, soundAnswer, registerAnswer, topLevel, whenDot, lampAnswer, fieldAnswer};
-ghost use Rattle.map.specs.declared.refusals.Answer.the-variants.{Accepted};
+ghost use Rattle.map.specs.declared.refusals.Answer.the-variants.{Accepted, Refused};
+ghost use Rattle.map.specs.declared.refusals.Refusal.the-variants.{NotWritable, ReservedBit};
+ghost use Rattle.map.specs.Map.{dataMode, isWide, writableOf};
 ghost use Rattle.map.specs.Images.{okByte};
 use map::Answer;
 use map::Refusal;
@@ -19,7 +23,7 @@ pub(crate) fn sound<'a>(member: u8, bus: u8, pins: u8, settings: &'a [u8], image
     images::image_ok(member as usize, image)
 }
 
-pub(crate) fn unsound<'a>(
+pub(crate) fn sound_answer<'a>(
     member: u8,
     bus: u8,
     pins: u8,
@@ -34,13 +38,22 @@ pub(crate) fn unsound<'a>(
     Answer::Accepted
 }
 
-// Whether the reserved bits of a byte are those of the reset value.
-fn fits(member: usize, address: usize, value: u8) -> bool
-    ensures { λ r. ⌜ r ≡ okByte member address value ⌝ }
+// What a byte at an address is refused for: no writable bit, or a reserved bit that is not the reset value's.
+fn byte(member: usize, address: usize, value: u8) -> Answer
+    ensures { λ r. ⌜ r ≡ cond (writableOf member address) (cond (okByte member address value) Accepted (Refused ReservedBit)) (Refused NotWritable) ⌝ }
 {
-    let mask = map::reserved(member, address);
-    let reset = map::reset_value(member, address);
-    value & mask == reset & mask
+    let kind = map::kind_at(address);
+    let lines = map::lines(member);
+    let columns = map::columns(member);
+    let mask = map::reserved_as(kind, member, lines, columns, address);
+    if 255 <= mask {
+        return Answer::Refused(Refusal::NotWritable);
+    }
+    let reset = map::reset_as(kind, member, address);
+    if value & mask != reset & mask {
+        return Answer::Refused(Refusal::ReservedBit);
+    }
+    Answer::Accepted
 }
 
 pub(crate) fn register<'a>(
@@ -57,23 +70,22 @@ pub(crate) fn register<'a>(
     if !sound(member, bus, pins, settings, image) {
         return Answer::Refused(Refusal::Unsound);
     }
-    if !map::writable(member as usize, address) {
-        return Answer::Refused(Refusal::NotWritable);
-    }
-    if !fits(member as usize, address, value) {
-        return Answer::Refused(Refusal::ReservedBit);
-    }
-    Answer::Accepted
+    byte(member as usize, address, value)
+}
+
+// Whether a byte of 001h has a data mode of 16-bit levels.
+pub(crate) fn is_wide(byte: u8) -> bool
+    ensures { λ r. ⌜ r ≡ isWide (dataMode byte) ⌝ }
+{
+    2 <= byte / 2 % 4
 }
 
 // The largest level that the data mode of the settings holds.
 pub(crate) fn top_level(settings: &[u8]) -> usize
+    requires { ⌜ length (now settings) ≡ 908 ⌝ }
     ensures { λ r. ⌜ r ≡ topLevel (now (settings .entry)) ⌝ }
 {
-    if settings.len() < 2 {
-        return 255;
-    }
-    if settings[1] / 2 % 4 < 2 { 255 } else { 65535 }
+    if is_wide(settings[0x001]) { 65535 } else { 255 }
 }
 
 // A sound record and a dot that its member has.
@@ -107,6 +119,7 @@ pub(crate) fn lamp<'a>(
     sink: usize,
     level: usize,
 ) -> Answer
+    requires { ⌜ length (now settings) ≡ 908 ⌝ }
     ensures { λ r. ⌜ r ≡ lampAnswer (recordOf member bus pins (now (settings .entry)) (now (image .entry))) line sink level ⌝ }
 {
     let answer = dot(member, bus, pins, settings, image, line, sink);

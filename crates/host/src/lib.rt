@@ -27,13 +27,15 @@ pub struct Changed {
     pub state: Record,
 }
 
+// Whether Open takes the record's member, bus and pins, and both images have reset values in reserved bits and outside the
+// writable addresses.
 pub fn sound(r: Record) -> bool
     ensures { λ x. ⌜ x ≡ soundOf r ⌝ }
 {
     answers::sound(r.member, r.bus, r.pins, &r.settings, &r.image)
 }
 
-// The same for a record in its parts, for callers that have them by reference.
+// Whether a record is sound, given in its parts, for callers that have them by reference.
 pub fn parts_sound<'a>(member: u8, bus: u8, pins: u8, settings: &'a [u8], image: &'a [u8]) -> bool
     ensures { λ x. ⌜ x ≡ soundOf (recordOf member bus pins (now (settings .entry)) (now (image .entry))) ⌝ }
 {
@@ -94,8 +96,8 @@ pub fn lamp(mut r: Record, line: usize, sink: usize, level: usize) -> Changed
 }
 
 // The brightness group of one dot: 1 to 3, or 0 for none.
-pub fn group(mut r: Record, line: usize, sink: usize, group: usize) -> Changed
-    ensures { λ x. ⌜ x ≡ groupOf r line sink group ⌝ }
+pub fn group(mut r: Record, line: usize, sink: usize, value: usize) -> Changed
+    ensures { λ x. ⌜ x ≡ groupOf r line sink value ⌝ }
 {
     let answer = answers::field(
         r.member,
@@ -105,7 +107,7 @@ pub fn group(mut r: Record, line: usize, sink: usize, group: usize) -> Changed
         &r.image,
         line,
         sink,
-        group,
+        value,
         3,
     );
     store::field(
@@ -115,7 +117,7 @@ pub fn group(mut r: Record, line: usize, sink: usize, group: usize) -> Changed
         &mut r.settings,
         line,
         sink,
-        group,
+        value,
     );
     Changed {
         answer: answer,
@@ -169,7 +171,7 @@ pub fn scene(mut r: Record, bytes: &[u8]) -> Changed
 pub fn power_lost(mut r: Record) -> Changed
     ensures { λ x. ⌜ x ≡ powerLostOf r ⌝ }
 {
-    let answer = answers::unsound(r.member, r.bus, r.pins, &r.settings, &r.image);
+    let answer = answers::sound_answer(r.member, r.bus, r.pins, &r.settings, &r.image);
     let believed = r.image;
     let image = store::lost(answer, r.member as usize, believed);
     r.image = image;

@@ -3,6 +3,7 @@ ghost use mathlib.Core.Path.{_≡_};
 ghost use mathlib.Core.Bool.{true, cond};
 ghost use Prim.Native.Nat.{_+_, _*_, _<_, _≤_};
 ghost use lib.ListN.{length};
+ghost use Rattle.map.specs.declared.refusals.Answer.the-variants.{Accepted, Refused};
 ghost use Rattle.map.specs.Refusals.{accepted};
 ghost use Rattle.map.specs.Lists.{allFrom};
 ghost use Rattle.host.specs.Record.{recordOf, wordAt, sceneCount, sceneSized, sceneHasDot, sceneFits, sceneAnswer, putScene};
@@ -51,6 +52,19 @@ fn levels_fit(top: usize, bytes: &[u8], n: usize) -> bool
     true
 }
 
+// The refusal of the first of two tests that fails.
+fn first_failed(first: bool, earlier: Refusal, second: bool, later: Refusal) -> Answer
+    ensures { λ r. ⌜ r ≡ cond first (cond second Accepted (Refused later)) (Refused earlier) ⌝ }
+{
+    if !first {
+        return Answer::Refused(earlier);
+    }
+    if !second {
+        return Answer::Refused(later);
+    }
+    Answer::Accepted
+}
+
 pub(crate) fn answer<'a>(
     member: u8,
     bus: u8,
@@ -59,6 +73,7 @@ pub(crate) fn answer<'a>(
     image: &'a [u8],
     bytes: &[u8],
 ) -> Answer
+    requires { ⌜ length (now settings) ≡ 908 ⌝ }
     ensures { λ r. ⌜ r ≡ sceneAnswer (recordOf member bus pins (now (settings .entry)) (now (image .entry))) (now (bytes .entry)) ⌝ }
 {
     if !answers::sound(member, bus, pins, settings, image) {
@@ -71,13 +86,9 @@ pub(crate) fn answer<'a>(
     if bytes.len() != 2 + 3 * n {
         return Answer::Refused(Refusal::SceneLength);
     }
-    if !has_dots(member as usize, bytes, n) {
-        return Answer::Refused(Refusal::NoDot);
-    }
-    if !levels_fit(answers::top_level(settings), bytes, n) {
-        return Answer::Refused(Refusal::Level);
-    }
-    Answer::Accepted
+    let dots = has_dots(member as usize, bytes, n);
+    let levels = levels_fit(answers::top_level(settings), bytes, n);
+    first_failed(dots, Refusal::NoDot, levels, Refusal::Level)
 }
 
 // The entries in order, each as a lamp of its own.
@@ -88,7 +99,7 @@ fn store_all(settings: &mut [u8; 908], bytes: &[u8], n: usize)
     let mut entry: usize = 0;
     while entry < n {
         let level = word_at(bytes, 2 + n + 2 * entry);
-        store::level(settings, bytes[2 + entry] as usize, level);
+        store::put_level(settings, bytes[2 + entry] as usize, level);
         entry += 1;
     }
 }

@@ -8,6 +8,7 @@ ghost use Rattle.map.specs.Images.{resetImage};
 ghost use Rattle.map.specs.Map.{isDot, dotNumber, widthOf};
 ghost use Rattle.host.specs.Record.{opened, openState, putBits, putField, putLevel};
 use crate::Record;
+use crate::answers;
 use map::Answer;
 use map::Field;
 use map::Place;
@@ -47,11 +48,11 @@ pub(crate) fn register(answer: Answer, settings: &mut [u8; 908], address: usize,
 }
 
 // The level of the dot with this number, in the data mode of the settings.
-pub(crate) fn level(settings: &mut [u8; 908], number: usize, level: usize)
+pub(crate) fn put_level(settings: &mut [u8; 908], number: usize, level: usize)
     requires { ⌜ (length (now settings) ≡ 908) × (number < 198) ⌝ }
     ensures { λ _. ⌜ now (settings .exit) ≡ putLevel (now (settings .entry)) number level ⌝ }
 {
-    if settings[1] / 2 % 4 < 2 {
+    if !answers::is_wide(settings[0x001]) {
         settings[0x200 + number] = (level % 256) as u8;
         return;
     }
@@ -66,7 +67,7 @@ pub(crate) fn lamp(answer: Answer, settings: &mut [u8; 908], line: usize, sink: 
     let Answer::Accepted = answer else {
         return;
     };
-    level(settings, 18 * line + sink, value);
+    put_level(settings, 18 * line + sink, value);
 }
 
 // 2 to the power of a bit's number.
@@ -99,25 +100,25 @@ fn put_bits(byte: u8, shift: usize, width: usize, value: u8) -> u8
 // A dot's group or switch.
 pub(crate) fn field(
     answer: Answer,
-    field: Field,
+    which: Field,
     member: usize,
     settings: &mut [u8; 908],
     line: usize,
     sink: usize,
     value: usize,
 )
-    requires { ⌜ (length (now settings) ≡ 908) × (widthOf field < 8) × (accepted answer ≡ true → (isDot member line sink ≡ true) × (value < 2 ^ widthOf field)) ⌝ }
-    ensures { λ _. ⌜ now (settings .exit) ≡ cond (accepted answer) (putField field (now (settings .entry)) line sink value) (now (settings .entry)) ⌝ }
+    requires { ⌜ (length (now settings) ≡ 908) × (widthOf which < 8) × (accepted answer ≡ true → (isDot member line sink ≡ true) × (value < 2 ^ widthOf which)) ⌝ }
+    ensures { λ _. ⌜ now (settings .exit) ≡ cond (accepted answer) (putField which (now (settings .entry)) line sink value) (now (settings .entry)) ⌝ }
 {
     let Answer::Accepted = answer else {
         return;
     };
-    let place = map::place_of(field, member, line, sink);
+    let place = map::place_of(which, member, line, sink);
     let Place::At { address, shift } = place else {
         return;
     };
     let byte = settings[address];
-    settings[address] = put_bits(byte, shift, map::width_of(field), (value % 256) as u8);
+    settings[address] = put_bits(byte, shift, map::width_of(which), (value % 256) as u8);
 }
 
 // The chip image after a loss of power.

@@ -41,6 +41,7 @@ pub use registers::group_mask;
 pub use registers::pwm_reserved;
 pub use registers::reserved;
 pub use registers::reserved_as;
+pub use registers::reset_as;
 pub use registers::reset_value;
 pub use registers::switch_mask;
 pub use registers::switch_reset;

@@ -150,7 +150,8 @@ pub fn current_reset(lines: usize, x: usize) -> u8
     if x / 18 < lines { 0x80 } else { 0 }
 }
 
-fn reset_as(kind: Kind, member: usize, address: usize) -> u8
+// The reset value of an address of a known kind.
+pub fn reset_as(kind: Kind, member: usize, address: usize) -> u8
     ensures { λ r. ⌜ r ≡ resetAs kind member address ⌝ }
 {
     match kind {

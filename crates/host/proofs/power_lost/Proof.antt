@@ -5,8 +5,8 @@ use borrow.Author.Needs.{needs}
 use Rattle.host.proofs.power_lost.Statement.{statement}
 use Rattle.host.proofs.power_lost.Tie as tie
 
-unsound-requires : tie.Need-unsound-requires
-unsound-requires c κs = search needs
+sound-answer-requires : tie.Need-sound-answer-requires
+sound-answer-requires c κs = search needs
 
 cast-lost : tie.Need-cast-lost
 cast-lost c = search needs
@@ -15,7 +15,7 @@ lost-requires : tie.Need-lost-requires
 lost-requires c κs = search needs
 
 returns : tie.Need-returns
-returns c = lost-is _ _ _ (c .before .before .unsound .ensures) (c .lost .ensures)
+returns c = lost-is _ _ _ (c .before .before .sound-answer .ensures) (c .lost .ensures)
 
 pub power-lost-spec : {M : Type 1} → statement M
-power-lost-spec = tie.close (tie.spec unsound-requires cast-lost lost-requires returns)
+power-lost-spec = tie.close (tie.spec sound-answer-requires cast-lost lost-requires returns)

@@ -30,18 +30,18 @@ add-word-at-2 c = omega arith
 word-at-requires : tie.Need-word-at-requires Inv-loop μ-loop
 word-at-requires c κs = omega arith
 
-add-level : tie.Need-add-level Inv-loop μ-loop
-add-level c = omega arith
+add-put-level : tie.Need-add-put-level Inv-loop μ-loop
+add-put-level c = omega arith
 
-shared-slice-read-level : tie.Need-shared-slice-read-level Inv-loop μ-loop
-shared-slice-read-level c = omega arith
+shared-slice-read-put-level : tie.Need-shared-slice-read-put-level Inv-loop μ-loop
+shared-slice-read-put-level c = omega arith
 
-cast-level : tie.Need-cast-level Inv-loop μ-loop
-cast-level c = omega (arith, c .shared-slice-known2 .given (2 + c .before .before .before .before .loop .entry))
+cast-put-level : tie.Need-cast-put-level Inv-loop μ-loop
+cast-put-level c = omega (arith, c .shared-slice-known2 .given (2 + c .before .before .before .before .loop .entry))
 
-level-requires : tie.Need-level-requires Inv-loop μ-loop
+put-level-requires : tie.Need-put-level-requires Inv-loop μ-loop
 unfolding sceneDot
-level-requires c κs = (c .before .before .before .before .loop .inv .1, c .before .before .before .before .before .before .pre .3 (c .before .before .before .before .loop .entry) (omega arith))
+put-level-requires c κs = (c .before .before .before .before .loop .inv .1, c .before .before .before .before .before .before .pre .3 (c .before .before .before .before .loop .entry) (omega arith))
 
 add-entry : tie.Need-add-entry Inv-loop μ-loop
 add-entry c = omega arith
@@ -50,7 +50,7 @@ loop-less : tie.Need-loop-less Inv-loop μ-loop
 loop-less c = omega arith
 
 loop-again : tie.Need-loop-again Inv-loop μ-loop
-loop-again c = (omega arith, ap length (c .level .ensures) ∙ put-level-length _ _ _ ∙ c .before .before .before .before .before .loop .inv .1, scene-more _ _ _ _ _ _ _ (c .before .before .before .before .before .before .before .pre .1) (c .before .before .before .word-at .ensures .0) (c .before .before .before .before .before .loop .inv .2) (c .level .ensures))
+loop-again c = (omega arith, ap length (c .put-level .ensures) ∙ put-level-length _ _ _ ∙ c .before .before .before .before .before .loop .inv .1, scene-more _ _ _ _ _ _ _ (c .before .before .before .before .before .before .before .pre .1) (c .before .before .before .word-at .ensures .0) (c .before .before .before .before .before .loop .inv .2) (c .put-level .ensures))
 
 returns : tie.Need-returns Inv-loop μ-loop
 returns c = let e : c .before .loop .entry ≡ c .before .before .before .args .n = omega arith in rw e at (c .before .loop .inv .2)
@@ -66,10 +66,10 @@ store-all-spec =
     mul-word-at
     add-word-at-2
     word-at-requires
-    add-level
-    shared-slice-read-level
-    cast-level
-    level-requires
+    add-put-level
+    shared-slice-read-put-level
+    cast-put-level
+    put-level-requires
     add-entry
     loop-less
     loop-again

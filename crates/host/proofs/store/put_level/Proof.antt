@@ -1,13 +1,18 @@
--- `host::store::level` meets its contract.
+-- `host::store::put_level` meets its contract.
 -- Assumes nothing.
+use mathlib.Core.Path.{_∙_}
+use borrow.Author.Tests.{not-true, not-false}
 use Rattle.host.specs.Record.{putLevel}
-use Rattle.host.proofs.Steps.{narrow, wide}
+use Rattle.host.proofs.Steps.{wide-is}
 use borrow.Author.Needs.{needs}
-use Rattle.host.proofs.store.level.Statement.{statement}
-use Rattle.host.proofs.store.level.Tie as tie
+use Rattle.host.proofs.store.put_level.Statement.{statement}
+use Rattle.host.proofs.store.put_level.Tie as tie
 
-element-copy-out-if1 : tie.Need-element-copy-out-if1
-element-copy-out-if1 c = search needs
+element-copy-out-is-wide : tie.Need-element-copy-out-is-wide
+element-copy-out-is-wide c = search needs
+
+is-wide-requires : tie.Need-is-wide-requires
+is-wide-requires c κs = search needs
 
 cast-settings : tie.Need-cast-settings
 cast-settings c = search needs
@@ -20,7 +25,7 @@ element-write-settings c = search needs
 
 returns : tie.Need-returns
 unfolding putLevel
-returns c = simp (narrow (c .before .before .args .settings .now) (c .if1 .taken))
+returns c = simp (wide-is (c .before .before .before .args .settings .now) _ (c .before .is-wide .ensures) ∙ not-true _ (c .if1 .taken))
 
 cast-settings-2 : tie.Need-cast-settings-2
 cast-settings-2 c = search needs
@@ -51,13 +56,14 @@ element-write-settings-3 c = search needs
 
 returns-2 : tie.Need-returns-2
 unfolding putLevel
-returns-2 c = simp (wide (c .before .before .args .settings .now) (c .if1 .left))
+returns-2 c = simp (wide-is (c .before .before .before .args .settings .now) _ (c .before .is-wide .ensures) ∙ not-false _ (c .if1 .left))
 
-pub level-spec : {M : Type 1} → statement M
-level-spec =
+pub put-level-spec : {M : Type 1} → statement M
+put-level-spec =
     tie.close
     (tie.spec
-    element-copy-out-if1
+    element-copy-out-is-wide
+    is-wide-requires
     cast-settings
     add-settings
     element-write-settings

@@ -1,11 +1,11 @@
--- `host::answers::unsound` meets its contract.
+-- `host::answers::sound_answer` meets its contract.
 -- Assumes nothing.
 use mathlib.Core.Path.{sym, _∙_}
 use borrow.Author.Tests.{not-true, not-false}
 use Rattle.host.specs.Record.{soundAnswer, whenSound}
 use borrow.Author.Needs.{needs}
-use Rattle.host.proofs.answers.unsound.Statement.{statement}
-use Rattle.host.proofs.answers.unsound.Tie as tie
+use Rattle.host.proofs.answers.sound_answer.Statement.{statement}
+use Rattle.host.proofs.answers.sound_answer.Tie as tie
 
 sound-requires : tie.Need-sound-requires
 sound-requires c κs = search needs
@@ -18,5 +18,5 @@ returns-2 : tie.Need-returns-2
 unfolding soundAnswer whenSound
 returns-2 c = simp (sym (c .before .sound .ensures) ∙ not-false _ (c .if1 .left))
 
-pub unsound-spec : {M : Type 1} → statement M
-unsound-spec = tie.close (tie.spec sound-requires returns returns-2)
+pub sound-answer-spec : {M : Type 1} → statement M
+sound-answer-spec = tie.close (tie.spec sound-requires returns returns-2)
