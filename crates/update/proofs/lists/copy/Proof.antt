@@ -1,32 +1,32 @@
--- `update::lists::put_data` meets its contract.
+-- `update::lists::copy` meets its contract.
 -- Assumes nothing.
 use native.Mathlib.Omega.{arith}
 use Prim.Native.Nat.{_-_, _≤_}
 use lib.ListN.{drop}
 use Rattle.update.proofs.Bytes.{Copied, copied-none, copied-more, copied-done}
-use Rattle.update.proofs.lists.put_data.Statement.{statement}
-use Rattle.update.proofs.lists.put_data.Tie as tie
+use Rattle.update.proofs.lists.copy.Statement.{statement}
+use Rattle.update.proofs.lists.copy.Tie as tie
 
 abbrev Inv-loop : tie.InvT-loop
-Inv-loop part₀ settings start len i₀ part i = (i ≤ len) × Copied part₀ (drop start settings) 2 i part
+Inv-loop to₀ at from start len i₀ to i = (i ≤ len) × Copied to₀ (drop start from) at i to
 
 abbrev μ-loop : tie.MeasureT-loop
-μ-loop part₀ settings start len i₀ part i = len - i
+μ-loop to₀ at from start len i₀ to i = len - i
 
 loop-holds : tie.Need-loop-holds Inv-loop μ-loop
 loop-holds c = (omega arith, copied-none _ _ _)
 
-add-part : tie.Need-add-part Inv-loop μ-loop
-add-part c = omega arith
+add-to : tie.Need-add-to Inv-loop μ-loop
+add-to c = omega arith
 
-shared-slice-read-part : tie.Need-shared-slice-read-part Inv-loop μ-loop
-shared-slice-read-part c = omega arith
+shared-slice-read-to : tie.Need-shared-slice-read-to Inv-loop μ-loop
+shared-slice-read-to c = omega arith
 
-add-part-2 : tie.Need-add-part-2 Inv-loop μ-loop
-add-part-2 c = omega arith
+add-to-2 : tie.Need-add-to-2 Inv-loop μ-loop
+add-to-2 c = omega arith
 
-slice-write-part : tie.Need-slice-write-part Inv-loop μ-loop
-slice-write-part c = omega (arith, c .before .before .loop .inv .1 .size)
+slice-write-to : tie.Need-slice-write-to Inv-loop μ-loop
+slice-write-to c = omega (arith, c .before .before .loop .inv .1 .size)
 
 add-i : tie.Need-add-i Inv-loop μ-loop
 add-i c = omega arith
@@ -35,7 +35,7 @@ loop-less : tie.Need-loop-less Inv-loop μ-loop
 loop-less c = omega arith
 
 loop-again : tie.Need-loop-again Inv-loop μ-loop
-loop-again c = (omega arith, copied-more _ (c .before .before .before .args .settings .now) _ _ (c .before .before .before .args .start) (c .before .before .loop .i) (omega arith) (c .before .before .loop .inv .1))
+loop-again c = (omega arith, copied-more _ (c .before .before .before .args .from .now) _ _ (c .before .before .before .args .start) (c .before .before .loop .i) (omega arith) (c .before .before .loop .inv .1))
 
 same-length : tie.Need-same-length Inv-loop μ-loop
 same-length c = c .before .loop .inv .1 .size
@@ -43,17 +43,17 @@ same-length c = c .before .loop .inv .1 .size
 returns : tie.Need-returns Inv-loop μ-loop
 returns c = copied-done _ _ _ _ (c .before .loop .i) (c .before .before .args .len) (omega arith) (c .before .loop .inv .1)
 
-pub put-data-spec : {M : Type 1} → statement M
-put-data-spec =
+pub copy-spec : {M : Type 1} → statement M
+copy-spec =
     tie.close
     (tie.spec
     Inv-loop
     μ-loop
     loop-holds
-    add-part
-    shared-slice-read-part
-    add-part-2
-    slice-write-part
+    add-to
+    shared-slice-read-to
+    add-to-2
+    slice-write-to
     add-i
     loop-less
     loop-again
