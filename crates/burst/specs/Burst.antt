@@ -47,6 +47,7 @@ unfoldable pub lengthsFrom : List ℕ → ℕ → ℕ → List ℕ
 lengthsFrom l p zero = []
 lengthsFrom l p (suc n) = size16 l p ∷ lengthsFrom l (p + 2) n
 
+-- the n lengths of a list: they stand behind n and t
 unfoldable pub lengths : List ℕ → List ℕ
 lengths l = lengthsFrom l 4 (nOf l)
 
@@ -55,13 +56,16 @@ unfoldable pub cutFrom : List ℕ → ℕ → List ℕ → List (List ℕ)
 cutFrom l q [] = []
 cutFrom l q (k ∷ ks) = take k (drop q l) ∷ cutFrom l (q + k) ks
 
+-- the n transactions of a list: they stand behind the lengths
 unfoldable pub transactions : List ℕ → List (List ℕ)
 transactions l = cutFrom l (4 + 2 * nOf l) (lengths l)
 
+-- "lengths not adding to t": what they add to
 abbrev pub sum : List ℕ → ℕ
 sum [] = 0
 sum (k ∷ ks) = k + sum ks
 
+-- "a length below 3": there is none
 abbrev pub allAtLeast3 : List ℕ → Bool
 allAtLeast3 [] = true
 allAtLeast3 (k ∷ ks) = leb 3 k && allAtLeast3 ks
@@ -115,10 +119,12 @@ abbrev pub busBytes : List Burst → ℕ
 busBytes [] = 0
 busBytes (b ∷ bs) = 2 + length (b .bytes) + busBytes bs
 
+-- "n lengths of two bytes", as bytes
 abbrev pub sizesBytes : List ℕ → List ℕ
 sizesBytes [] = []
 sizesBytes (k ∷ ks) = sizeBytes k ++ sizesBytes ks
 
+-- "the n transactions back to back", as bytes
 abbrev pub joined : List (List ℕ) → List ℕ
 joined [] = []
 joined (x ∷ xs) = x ++ joined xs

@@ -138,7 +138,7 @@ below e h = omega arith
 -- ---- every call
 
 -- a choice of settings, each of which is an image
-chosen : (m : ℕ) (b : Bool) (new old : List ℕ) → (b ≡ true → Image m new) → Image m old → Image m (cond b new old)
+pub chosen : (m : ℕ) (b : Bool) (new old : List ℕ) → (b ≡ true → Image m new) → Image m old → Image m (cond b new old)
 chosen m true new old f i = f refl
 chosen m false new old f i = i
 

@@ -1,6 +1,7 @@
 pub mod Lists
 pub mod Plan
 pub mod Writes
+pub mod WriteLaws
 pub mod Weight
 pub mod PlanLaws
 pub mod ScanLaws
@@ -14,4 +15,3 @@ pub mod Heard
 pub mod Follow
 pub mod MachineLaws
 pub mod Again
-pub mod Masked

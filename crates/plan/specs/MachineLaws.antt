@@ -12,7 +12,8 @@ use lib.ListN.{length, length-map}
 use Rattle.burst.specs.Burst.{Burst, busBytes}
 use Rattle.plan.specs.Lists.{all-weaken}
 use Rattle.plan.specs.Plan.{writableBy, costBy, plan}
-use Rattle.plan.specs.Writes.{Good, AllGood, good-weaken, cost-three}
+use Rattle.plan.specs.Writes.{Good, AllGood}
+use Rattle.plan.specs.WriteLaws.{good-weaken, cost-three}
 use Rattle.plan.specs.Cheapest.{plan-cheapest-by}
 use Rattle.plan.specs.Update.{valueAt, Same, marksFor, onBy, enableWrite, updateBy, updateFor, writeOf, enableCost}
 use Rattle.plan.specs.UpdateLaws.{bus-cost, ok-mark, update-same, good-enable, update-off, update-good, update-cost}

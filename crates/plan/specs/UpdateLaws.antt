@@ -12,7 +12,8 @@ use lib.Seq.{length-take-le, getD-take, getD-drop}
 use Rattle.burst.specs.Burst.{Burst, busBytes}
 use Rattle.plan.specs.Lists.{all-weaken}
 use Rattle.plan.specs.Plan.{writable, writableBy, Write, cost, costBy, plan}
-use Rattle.plan.specs.Writes.{Good, AllGood, count-le-cost, good-weaken}
+use Rattle.plan.specs.Writes.{Good, AllGood}
+use Rattle.plan.specs.WriteLaws.{count-le-cost, good-weaken}
 use Rattle.plan.specs.PlanLaws.{plan-good, plan-small, plan-same}
 use Rattle.plan.specs.Cheapest.{Wider, hole-hole, clean-clean, clean-dirty, dirty-dirty, plan-most}
 use Rattle.plan.specs.Update.{valueAt, Same, markAt, marksFor, allDiffer, onBy, dataOf, enableWrite, enable, updateBy, updateFor, writeOf, enableCost, Layout}

@@ -12,12 +12,17 @@ use Rattle.burst.specs.Burst.{Burst, sizeBytes, sizesBytes, putSize, headFirst,
 use Rattle.plan.specs.Plan.{Write}
 use Rattle.plan.specs.Update.{dataOf, storeAll}
 use Rattle.plan.specs.Follow.{store-append}
+use Rattle.update.specs.Update.{over}
 use Rattle.update.specs.Runs.{transactionLengths, transactionBytes, storeWrites, firstRun}
 
 pub sets-append : (xs ys l : List ℕ) (i : ℕ) → sets (sets l i xs) (i + length xs) ys ≡ sets l i (xs ++ ys)
 sets-append [] ys l i = ap (λ (k : ℕ). sets l k ys) (add-zero i)
 sets-append (x ∷ xs) ys l i =
     ap (λ (k : ℕ). sets (sets (set l i x) (suc i) xs) k ys) (add-suc i (length xs) ∙ sym (suc-add i (length xs))) ∙ sets-append xs ys (set l i x) (suc i)
+
+-- bytes stored from the front on
+pub front-over : (bytes buffer : List ℕ) → length bytes ≤ length buffer → sets buffer 0 bytes ≡ over bytes buffer
+front-over bytes buffer h = sets-eq bytes buffer 0 (omega arith) ∙ ap (λ (k : ℕ). bytes ++ drop k buffer) (zero-add (length bytes))
 
 -- ---- copies
 

@@ -1,43 +1,71 @@
--- The fixed lists of Reset and the Clears, and the records that the public calls give back.
+-- The fixed strings of Reset and the Clears, and the records that the public calls give back.
 -- Assumes nothing.
-use mathlib.Core.Path.{_≡_, refl, ap, ap₂, _∙_}
-use mathlib.Core.Bool.{true, false, cond}
-use mathlib.Core.List.{List, [], _∷_, _++_}
-use Prim.Native.Nat.{ℕ, _<_, _≤_}
-use native.Mathlib.Nat.{zero-add}
+use mathlib.Core.Path.{_≡_, refl, sym, ap, ap₂, _∙_}
+use mathlib.Core.Bool.{Bool, true, false, cond}
+use mathlib.Core.List.{List}
+use Prim.Native.Nat.{ℕ, _+_, _*_, _/_, _%_, _<_, _≤_}
 use native.Mathlib.Omega.{arith}
-use borrow.Author.Tests.{le-leb, lt-leb}
-use lib.ListN.{length, set, drop}
-use lib.Seq.{sets-eq}
+use borrow.Author.Tests.{le-leb, lt-leb, ne-eqb, eqb-true}
+use lib.Dec.{eqb}
+use lib.Bits.{bitOr}
+use lib.ListN.{length, getD, set, take, drop}
+use lib.Seq.{sets}
 use Rattle.map.specs.declared.refusals.Refusal.the-variants.{Unsound, BufferShort}
+use Rattle.map.specs.Lists.{allFrom}
+use Rattle.map.specs.ListLaws.{all-at}
 use Rattle.map.specs.Images.{resetImage}
-use Rattle.burst.specs.Burst.{putSize, headFirst, headSecond, transactionOf, listOf, encode}
+use Rattle.burst.specs.Burst.{headFirst, headSecond, transactionOf, listOf, encode}
 use Rattle.host.specs.declared.Record.{Record}
 use Rattle.host.specs.Record.{recordOf, soundOf}
 use Rattle.update.specs.declared.ListAnswer.{ListAnswer}
 use Rattle.update.specs.declared.ListAnswer.the-variants.{Listed, Refused}
+use Rattle.update.specs.declared.commands.Strings.{Strings}
 use Rattle.update.specs.Update.{isListed, over, updateAnswer, updateImage, updateOf, commandWrite, commandAnswer, commandBuffer, chipResetOf, clearOf}
+use Rattle.update.specs.Runs.{commandStrings}
+use Rattle.update.proofs.Bytes.{front-over}
 
--- three sizes and three bytes are the list of one write of one byte
-pub command-written : (b₀ b₁ b₂ b₃ : List ℕ) (bus pins a v x y : ℕ) → b₁ ≡ putSize b₀ 0 1 → b₂ ≡ putSize b₁ 2 3 → b₃ ≡ putSize b₂ 4 3 →
-    x ≡ headFirst bus pins a → y ≡ headSecond bus a → 9 ≤ length b₀ → set (set (set b₃ 6 x) 7 y) 8 v ≡ over (encode bus pins (commandWrite a v)) b₀
-unfolding putSize encode listOf transactionOf
-command-written b₀ b₁ b₂ b₃ bus pins a v x y e₁ e₂ e₃ ex ey h = rw (e₃, e₂, e₁, ex, ey) (sets-eq bytes b₀ 0 (omega arith) ∙ ap (λ (k : ℕ). bytes ++ drop k b₀) (zero-add 9))
+-- ---- the strings
+
+pins-test : ℕ → Bool
+pins-test k = eqb (bitOr (0x80 + 2 * (k / 4)) (8 * (k % 4))) (0x80 + 8 * (k % 4) + 2 * (k / 4))
+
+-- the pins beside the other bits of an I2C head
+pins-in : (pins a : ℕ) → bitOr (headFirst 0 0 a) (8 * (pins % 4)) ≡ headFirst 0 pins a
+unfolding headFirst pins-test allFrom
+pins-in pins a = at (4 * (a / 256 % 4) + pins % 4) (a / 256 % 4) (pins % 4) (omega arith) (omega arith) (omega arith)
   where
-    bytes : List ℕ
-    bytes = 1 ∷ 0 ∷ 3 ∷ 0 ∷ 3 ∷ 0 ∷ headFirst bus pins a ∷ headSecond bus a ∷ v ∷ []
+    at : (k x p : ℕ) → k < 16 → k / 4 ≡ x → k % 4 ≡ p → bitOr (0x80 + 2 * x) (8 * p) ≡ 0x80 + 8 * p + 2 * x
+    at k x p h ex ep = rw (sym ex, sym ep) (eqb-true (bitOr (0x80 + 2 * (k / 4)) (8 * (k % 4))) (0x80 + 8 * (k % 4) + 2 * (k / 4)) (all-at pins-test 0 16 refl k (omega arith) h))
 
-module _ (r : Record) (buffer : List ℕ) (a v : ℕ) where
-  pub command-unsound : soundOf r ≡ false → (Refused Unsound ≡ commandAnswer r (length buffer)) × (buffer ≡ commandBuffer r a v buffer)
+module _ (buffer new : List ℕ) (bus pins : ℕ) (strings : Strings) (room : 9 ≤ length buffer) where
+  pub i2c-written : bus ≡ 0 → new ≡ sets buffer 0 (take 9 (drop 0 (set (strings .i2c) 6 (bitOr (getD (strings .i2c) 6 0) (8 * (pins % 4)))))) →
+      (a v : ℕ) → strings ≡ commandStrings a v → new ≡ over (encode bus pins (commandWrite a v)) buffer
+  unfolding encode listOf transactionOf
+  i2c-written z e a v s = e ∙ rw (z, s, pins-in pins a) (front-over (encode 0 pins (commandWrite a v)) buffer room)
+
+  pub spi-written : (bus ≡ 0 → ⊥) → new ≡ sets buffer 0 (take 9 (drop 0 (strings .spi))) →
+      (a v : ℕ) → strings ≡ commandStrings a v → new ≡ over (encode bus pins (commandWrite a v)) buffer
+  unfolding encode listOf transactionOf headFirst headSecond
+  spi-written n e a v s = e ∙ rw (s, ne-eqb bus 0 n) (front-over (encode 1 0 (commandWrite a v)) buffer room)
+
+-- ---- a command
+
+module _ (r : Record) (buffer : List ℕ) (strings : Strings) where
+  -- the buffer after a command, for the write of v to a that the strings are of
+  abbrev pub Ordered : List ℕ → Type 0
+  Ordered new = (a v : ℕ) → strings ≡ commandStrings a v → new ≡ commandBuffer r a v buffer
+
+  pub command-unsound : soundOf r ≡ false → (Refused Unsound ≡ commandAnswer r (length buffer)) × Ordered buffer
   unfolding commandAnswer commandBuffer
-  command-unsound e = rw e (refl, refl)
+  command-unsound e = rw e (refl, λ a v s. refl)
 
-  pub command-short : soundOf r ≡ true → length buffer < 9 → (Refused BufferShort ≡ commandAnswer r (length buffer)) × (buffer ≡ commandBuffer r a v buffer)
+  pub command-short : soundOf r ≡ true → length buffer < 9 → (Refused BufferShort ≡ commandAnswer r (length buffer)) × Ordered buffer
   unfolding commandAnswer commandBuffer
-  command-short e h = rw (e, lt-leb 9 (length buffer) h) (refl, refl)
+  command-short e h = rw (e, lt-leb 9 (length buffer) h) (refl, λ a v s. refl)
 
-  pub command-listed : (new : List ℕ) → soundOf r ≡ true → 9 ≤ length buffer → new ≡ over (encode (r .bus) (r .pins) (commandWrite a v)) buffer →
-      (Listed 1 3 ≡ commandAnswer r (length buffer)) × (new ≡ commandBuffer r a v buffer)
+  pub command-listed : (new : List ℕ) → soundOf r ≡ true → 9 ≤ length buffer →
+      ((a v : ℕ) → strings ≡ commandStrings a v → new ≡ over (encode (r .bus) (r .pins) (commandWrite a v)) buffer) →
+      (Listed 1 3 ≡ commandAnswer r (length buffer)) × Ordered new
   unfolding commandAnswer commandBuffer
   command-listed new e h w = rw (e, le-leb 9 (length buffer) h) (refl, w)
 

@@ -8,7 +8,7 @@ use lib.ListN.{length, take, drop, length-append}
 use lib.Seq.{sets, length-sets}
 use Rattle.burst.specs.Burst.{sizeBytes, sizesBytes, putSize, transactionOf}
 use Rattle.plan.specs.Plan.{Write, cost, plan}
-use Rattle.plan.specs.Writes.{cost-append}
+use Rattle.plan.specs.WriteLaws.{cost-append}
 use Rattle.plan.specs.Update.{dataOf}
 use Rattle.plan.specs.RunLaws.{one}
 use Rattle.update.specs.Runs.{marksOf, Pair, FirstDiffering, RunEnd, transactionLengths, transactionBytes, storeWrites}

@@ -9,7 +9,7 @@ use native.Mathlib.Omega.{arith}
 use lib.ListN.{length, take, drop, length-append, take-append-drop}
 use lib.Seq.{take-at, take-take}
 use Rattle.plan.specs.Plan.{Write, writing, cost, scan, plan}
-use Rattle.plan.specs.Writes.{cost-append}
+use Rattle.plan.specs.WriteLaws.{cost-append}
 use Rattle.plan.specs.RunLaws.{one, Quiet, Settled, settled-start, settled-run, settled-prefix}
 use Rattle.update.specs.Runs.{marksOf, Pair, FirstDiffering, RunEnd, Counted}
 use Rattle.update.proofs.Marks.{dirty-at, not-dirty}

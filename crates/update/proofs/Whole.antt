@@ -4,20 +4,20 @@ use mathlib.Core.Path.{_≡_, refl, sym, ap, ap₂, _∙_, subst}
 use mathlib.Core.Bool.{Bool, true, false, cond}
 use mathlib.Core.List.{List, [], _∷_, _++_, map, append-assoc}
 use Prim.Native.Nat.{ℕ, zero, suc, _+_, _*_, _%_, _≤_, _<_}
-use native.Mathlib.Nat.{zero-add}
 use native.Mathlib.Decide.{ℕ-discrete}
 use native.Mathlib.Omega.{arith}
 use borrow.Author.Tests.{eq-eqb, ne-eqb, le-leb, lt-leb}
 use lib.Dec.{eqb}
 use lib.ListN.{length, getD, take, drop, length-append, length-map}
-use lib.Seq.{sets, length-sets, sets-eq, take-suc, take-length, length-take-le}
+use lib.Seq.{sets, length-sets, take-suc, take-length, length-take-le}
 use Rattle.map.specs.declared.refusals.Refusal.the-variants.{Unsound}
 use Rattle.map.specs.Map.{writableOf}
 use Rattle.burst.specs.Burst.{Burst, sizeBytes, sizesBytes, transactionOf, joined, sum, busBytes, encode, listOf}
 use Rattle.burst.specs.BurstLaws.{encode-length}
 use Rattle.plan.specs.Lists.{All, all-append}
 use Rattle.plan.specs.Plan.{Write, cost, plan}
-use Rattle.plan.specs.Writes.{Good, AllGood, cost-append}
+use Rattle.plan.specs.Writes.{Good, AllGood}
+use Rattle.plan.specs.WriteLaws.{cost-append}
 use Rattle.plan.specs.Update.{valueAt, onBy, dataOf, enable, updateFor, storeAll, Layout}
 use Rattle.plan.specs.UpdateLaws.{plan-ok, data-length}
 use Rattle.host.specs.declared.Record.{Record}
@@ -27,7 +27,7 @@ use Rattle.update.specs.declared.ListAnswer.the-variants.{Listed, Short,
 use Rattle.update.specs.Update.{listSize, over, writesOf, updateAnswer, updateImage, updateBuffer}
 use Rattle.update.specs.UpdateLaws.{enable-byte, differ-writable, image-layout}
 use Rattle.update.specs.Runs.{marksOf, Pair, Counted, transactionLengths, transactionBytes, storeWrites, firstRun, firstCount, runCount, runsOf, ListSizes, pendingRuns, listBytes}
-use Rattle.update.proofs.Bytes.{sets-append, sizes-length, transaction-length, bytes-append, lengths-append, stores-append}
+use Rattle.update.proofs.Bytes.{sets-append, front-over, sizes-length, transaction-length, bytes-append, lengths-append, stores-append}
 
 -- ---- first_count and list_sizes
 
@@ -323,4 +323,4 @@ module _ (r : Record) (taken buffer : List ℕ) where
         list = encode (r .bus) (r .pins) (writesOf r)
 
         put : sets buffer 0 list ≡ over list buffer
-        put = sets-eq list buffer 0 (omega (arith, encode-length (r .bus) (r .pins) (writesOf r), size-is)) ∙ ap (λ (k : ℕ). list ++ drop k buffer) (zero-add (length list))
+        put = front-over list buffer (omega (arith, encode-length (r .bus) (r .pins) (writesOf r), size-is))

@@ -68,7 +68,7 @@ module _ (r : Record) (e : soundOf r ≡ true) where
     short = omega (arith, bus-most);
   }
 
-  -- "no update names an address outside the member's writable ones"
+  -- each address that an update names is a writable one of the member
   pub names-writable : AllGood (writableOf (r .member)) 908 (map writeOf (writesOf r))
   unfolding writesOf
   names-writable = update-good (writableOf (r .member)) 908 (r .settings) layout (valueAt (r .image))

@@ -8,10 +8,12 @@ use lib.Dec.{leb, eqb}
 use lib.ListN.{length, getD, take}
 use Rattle.map.specs.Map.{linesOf, columnsOf, writableOf}
 use Rattle.map.specs.KindTable.{kindTable}
-use Rattle.burst.specs.Burst.{sizeBytes, sizesBytes, transactionOf, joined}
+use Rattle.burst.specs.Burst.{sizeBytes, sizesBytes, transactionOf, joined, encode}
 use Rattle.plan.specs.Plan.{Mark, Write, cost, plan}
 use Rattle.plan.specs.Update.{valueAt, marksFor, onBy, dataOf, storeAll}
 use Rattle.plan.specs.RunLaws.{Closed, Extends}
+use Rattle.update.specs.declared.commands.Strings.{Strings}
+use Rattle.update.specs.Update.{commandWrite}
 
 -- the marks of an update: what each address is, by the member's writable addresses, the settings and the chip image
 abbrev pub marksOf : ℕ → List ℕ → List ℕ → ℕ → Mark
@@ -29,6 +31,7 @@ pub record Pair (m : ℕ) (settings image : List ℕ) : Type 0 where
   pub image-size : length image ≡ 908
   pub writable : (a : ℕ) → a < 908 → (getD settings a 0 ≡ getD image a 0 → ⊥) → writableOf m a ≡ true
 
+-- "the differing addresses": whether an address of the table is one
 unfoldable pub differsAt : List ℕ → List ℕ → ℕ → Bool
 differsAt settings image a = cond (leb 908 a) false (not (eqb (getD settings a 0) (getD image a 0)))
 
@@ -38,6 +41,7 @@ pub record SameTo (settings image : List ℕ) (from a : ℕ) : Type 0 where
   pub most : a ≤ 908
   pub same : (k : ℕ) → from ≤ k → k < a → getD settings k 0 ≡ getD image k 0
 
+-- "the differing addresses from 001h up": the first one from `from` on, or 908 where there is none
 pub record FirstDiffering (settings image : List ℕ) (from r : ℕ) : Type 0 where
   pub least : from ≤ r
   pub most : r ≤ 908
@@ -51,6 +55,7 @@ pub record Further (m : ℕ) (settings image : List ℕ) (e r : ℕ) : Type 0 wh
   pub stays : r ≡ e → Closed (marksOf m settings image) e
   pub goes : (r ≡ e → ⊥) → Extends (marksOf m settings image) e r
 
+-- the write that has come to `from` goes on to r, and no neighbour behind r shares it
 pub record RunEnd (m : ℕ) (settings image : List ℕ) (from r : ℕ) : Type 0 where
   pub least : from ≤ r
   pub most : r ≤ 908
@@ -95,6 +100,7 @@ runCount m settings image = cond (onBy (valueAt settings)) (length (plan (marksO
 abbrev pub runsOf : ℕ → List ℕ → List ℕ → List Write
 runsOf m settings image = take (runCount m settings image) (plan (marksOf m settings image) 908)
 
+-- n and t of an update by parts: its enabling writes, the plan's writes that are sent, and the bus bytes of these
 pub record ListSizes (m : ℕ) (settings image : List ℕ) (first writes bytes : ℕ) : Type 0 where
   pub first-is : first ≡ firstCount settings image
   pub writes-are : writes ≡ runCount m settings image
@@ -114,3 +120,7 @@ listBytes bus pins m settings image first bytes =
     ++ (sizeBytes (3 * first + bytes) ++ sizesBytes (transactionLengths (firstRun first))))
     ++ (sizesBytes (transactionLengths (runsOf m settings image))
     ++ (transactionBytes bus pins settings (firstRun first) ++ transactionBytes bus pins settings (runsOf m settings image)))
+
+-- "The fixed bytes: one write of" v to a, on either bus, with pins 0
+abbrev pub commandStrings : ℕ → ℕ → Strings
+commandStrings a v = record { i2c = encode 0 0 (commandWrite a v); spi = encode 1 0 (commandWrite a v) }

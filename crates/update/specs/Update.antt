@@ -5,7 +5,7 @@ use mathlib.Core.Bool.{Bool, true, false, cond}
 use mathlib.Core.List.{List, [], _∷_, _++_}
 use Prim.Native.Nat.{ℕ, _+_, _*_}
 use lib.Dec.{leb}
-use lib.ListN.{length, drop}
+use lib.ListN.{length, getD, drop}
 use Rattle.map.specs.declared.refusals.Refusal.the-variants.{BufferShort, Unsound}
 use Rattle.map.specs.Refusals.{refusalNumber}
 use Rattle.map.specs.Map.{writableOf}
@@ -20,12 +20,17 @@ use Rattle.update.specs.declared.Updated.{Updated}
 
 -- ---- Answers
 
--- the number of an answer: 0 with n and t, 10 with the length needed, or a refusal's
-abbrev pub listNumber : ListAnswer → ℕ
-listNumber (Listed n t) = 0
-listNumber (Short needed) = refusalNumber BufferShort
-listNumber (Refused r) = refusalNumber r
+-- the number and the values of an answer: 0 with n and t; 10 with the length needed; another refusal "carries only its number"
+abbrev pub listNumbers : ListAnswer → List ℕ
+listNumbers (Listed n t) = 0 ∷ n ∷ t ∷ []
+listNumbers (Short needed) = refusalNumber BufferShort ∷ needed ∷ []
+listNumbers (Refused r) = refusalNumber r ∷ []
 
+-- the number alone
+abbrev pub listNumber : ListAnswer → ℕ
+listNumber answer = getD (listNumbers answer) 0 0
+
+-- "Otherwise exactly those bytes are written": whether a list was
 abbrev pub isListed : ListAnswer → Bool
 isListed (Listed n t) = true
 isListed (Short needed) = false
@@ -56,12 +61,14 @@ updateAnswer r size =
 unfoldable pub updateImage : Record → ℕ → List ℕ
 updateImage r size = cond (isListed (updateAnswer r size)) (storeAll (writesOf r) (r .image)) (r .image)
 
+-- Update: what it answers, and the record that it returns
 unfoldable pub updateOf : Record → ℕ → Updated
 updateOf r size = record {
   answer = updateAnswer r size;
   state = recordOf (r .member) (r .bus) (r .pins) (r .settings) (updateImage r size);
 }
 
+-- Update: the buffer as it leaves it, the old one where the call is refused
 unfoldable pub updateBuffer : Record → List ℕ → List ℕ
 updateBuffer r buffer =
     cond (isListed (updateAnswer r (length buffer))) (over (encode (r .bus) (r .pins) (writesOf r)) buffer) buffer
@@ -76,6 +83,7 @@ commandWrite a v = record { start = a; bytes = v ∷ [] } ∷ []
 unfoldable pub commandAnswer : Record → ℕ → ListAnswer
 commandAnswer r size = cond (soundOf r) (cond (leb 9 size) (Listed 1 3) (Refused BufferShort)) (Refused Unsound)
 
+-- "its 9 list bytes are written and no others": the buffer after one write of v to a
 unfoldable pub commandBuffer : Record → ℕ → ℕ → List ℕ → List ℕ
 commandBuffer r a v buffer =
     cond (isListed (commandAnswer r (length buffer))) (over (encode (r .bus) (r .pins) (commandWrite a v)) buffer) buffer
@@ -84,10 +92,11 @@ commandBuffer r a v buffer =
 abbrev pub resetBuffer : Record → List ℕ → List ℕ
 resetBuffer r buffer = commandBuffer r 0x0A9 0xFF buffer
 
--- "one write of 0Fh to 0A7h, or to 0A8h."
+-- "one write of 0Fh to 0A7h,"
 abbrev pub clearOpensBuffer : Record → List ℕ → List ℕ
 clearOpensBuffer r buffer = commandBuffer r 0x0A7 0x0F buffer
 
+-- "or to 0A8h."
 abbrev pub clearShortsBuffer : Record → List ℕ → List ℕ
 clearShortsBuffer r buffer = commandBuffer r 0x0A8 0x0F buffer
 

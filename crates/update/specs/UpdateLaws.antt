@@ -27,7 +27,7 @@ use Rattle.plan.specs.Update.{valueAt, marksFor, onBy, dataOf, enableWrite, upd
 use Rattle.plan.specs.UpdateLaws.{plan-ok, data-length, data-at}
 use Rattle.host.specs.declared.Record.{Record}
 use Rattle.host.specs.Record.{recordOf, soundOf}
-use Rattle.host.specs.SoundLaws.{Sound, sound-is, is-sound, reset-image}
+use Rattle.host.specs.SoundLaws.{Sound, sound-is, is-sound, reset-image, chosen}
 use Rattle.update.specs.Update.{isListed, writesOf, updateAnswer, updateImage, updateOf, commandAnswer, chipResetOf}
 
 -- ---- one byte
@@ -153,22 +153,17 @@ image-sound : (r : Record) (image : List ℕ) → Sound r → Image (r .member) 
 image-sound r image s i =
     is-sound (recordOf (r .member) (r .bus) (r .pins) (r .settings) image) (record { opened = s .opened; settings = s .settings; image = i })
 
--- the image that a call leaves: a new one where it answers a list
-either-image : (m : ℕ) (b : Bool) (new old : List ℕ) → Image m new → Image m old → Image m (cond b new old)
-either-image m true new old n o = n
-either-image m false new old n o = o
-
 pub update-sound : (r : Record) (size : ℕ) → soundOf r ≡ true → soundOf (updateOf r size .state) ≡ true
 unfolding updateOf updateImage writesOf
 update-sound r size e =
     let s = sound-is r e in
     image-sound r (updateImage r size) s
-    (either-image (r .member) (isListed (updateAnswer r size)) (storeAll (writesOf r) (r .image)) (r .image)
-    (store-image (r .member) (writesOf r) (update-fits (r .member) (r .settings) (s .settings) (valueAt (r .image))) (r .image) (s .image)) (s .image))
+    (chosen (r .member) (isListed (updateAnswer r size)) (storeAll (writesOf r) (r .image)) (r .image)
+    (λ t. store-image (r .member) (writesOf r) (update-fits (r .member) (r .settings) (s .settings) (valueAt (r .image))) (r .image) (s .image)) (s .image))
 
 pub reset-sound : (r : Record) (size : ℕ) → soundOf r ≡ true → soundOf (chipResetOf r size .state) ≡ true
 unfolding chipResetOf
 reset-sound r size e =
     let s = sound-is r e in
     image-sound r (cond (isListed (commandAnswer r size)) (resetImage (r .member)) (r .image)) s
-    (either-image (r .member) (isListed (commandAnswer r size)) (resetImage (r .member)) (r .image) (reset-image (r .member) (s .image .member)) (s .image))
+    (chosen (r .member) (isListed (commandAnswer r size)) (resetImage (r .member)) (r .image) (λ t. reset-image (r .member) (s .image .member)) (s .image))

@@ -1,29 +1,57 @@
 // The fixed lists of Reset and the Clears: one write of one byte, 9 bytes.
 ghost use mathlib.Core.Path.{_≡_};
 ghost use mathlib.Core.Bool.{cond};
-ghost use Prim.Native.Nat.{_≤_};
+ghost use Prim.Native.Nat.{ℕ, _≤_};
 ghost use lib.ListN.{length};
 ghost use Rattle.map.specs.Images.{resetImage};
 ghost use Rattle.burst.specs.Burst.{encode};
 ghost use Rattle.host.specs.Record.{recordOf};
 ghost use Rattle.update.specs.Update.{isListed, over, commandWrite, commandAnswer, commandBuffer};
+ghost use Rattle.update.specs.Runs.{commandStrings};
 use crate::ListAnswer;
+use crate::lists;
 use map::Refusal;
 
-// n, t and the length of the one transaction, and its three bytes.
-fn put_command(buffer: &mut [u8], bus: u8, pins: u8, address: usize, value: u8)
-    requires { ⌜ 9 ≤ length (now buffer) ⌝ }
-    ensures { λ _. ⌜ now (buffer .exit) ≡ over (encode bus pins (commandWrite address value)) (now (buffer .entry)) ⌝ }
-{
-    burst::put_size(buffer, 0, 1);
-    burst::put_size(buffer, 2, 3);
-    burst::put_size(buffer, 4, 3);
-    buffer[6] = burst::head_first(bus, pins, address);
-    buffer[7] = burst::head_second(bus, address);
-    buffer[8] = value;
+// A command's fixed string on either bus: n, t, the length of the one transaction, its head with pins 0, and its data byte.
+pub(crate) struct Strings {
+    pub i2c: [u8; 9],
+    pub spi: [u8; 9],
 }
 
-// A command of a record, where the record is sound and the buffer has room.
+// FFh to 0A9h
+pub(crate) const RESET: Strings = Strings {
+    i2c: *b"\x01\x00\x03\x00\x03\x00\x80\xA9\xFF",
+    spi: *b"\x01\x00\x03\x00\x03\x00\x2A\x60\xFF",
+};
+
+// 0Fh to 0A7h
+pub(crate) const CLEAR_OPENS: Strings = Strings {
+    i2c: *b"\x01\x00\x03\x00\x03\x00\x80\xA7\x0F",
+    spi: *b"\x01\x00\x03\x00\x03\x00\x29\xE0\x0F",
+};
+
+// 0Fh to 0A8h
+pub(crate) const CLEAR_SHORTS: Strings = Strings {
+    i2c: *b"\x01\x00\x03\x00\x03\x00\x80\xA8\x0F",
+    spi: *b"\x01\x00\x03\x00\x03\x00\x2A\x20\x0F",
+};
+
+// The string of the record's bus, to the front of the buffer; an I2C head has the record's pins.
+fn put_command(buffer: &mut [u8], bus: u8, pins: u8, strings: Strings)
+    requires { ⌜ 9 ≤ length (now buffer) ⌝ }
+    ensures { λ _. ⌜ ((a v : ℕ) → strings ≡ commandStrings a v → now (buffer .exit) ≡ over (encode bus pins (commandWrite a v)) (now (buffer .entry))) ⌝ }
+{
+    if bus == 0 {
+        let mut string = strings.i2c;
+        string[6] |= 8 * (pins % 4);
+        lists::copy(buffer, 0, &string, 0, 9);
+        return;
+    }
+    let string = strings.spi;
+    lists::copy(buffer, 0, &string, 0, 9);
+}
+
+// A command of a record, by its strings, where the record is sound and the buffer has room.
 pub(crate) fn command<'a>(
     member: u8,
     bus: u8,
@@ -31,11 +59,10 @@ pub(crate) fn command<'a>(
     settings: &'a [u8],
     image: &'a [u8],
     buffer: &mut [u8],
-    address: usize,
-    value: u8,
+    strings: Strings,
 ) -> ListAnswer
     ensures { λ r. ⌜ r ≡ commandAnswer (recordOf member bus pins (now (settings .entry)) (now (image .entry))) (length (now (buffer .entry))) ⌝ }
-    ensures { λ _. ⌜ now (buffer .exit) ≡ commandBuffer (recordOf member bus pins (now (settings .entry)) (now (image .entry))) address value (now (buffer .entry)) ⌝ }
+    ensures { λ _. ⌜ ((a v : ℕ) → strings ≡ commandStrings a v → now (buffer .exit) ≡ commandBuffer (recordOf member bus pins (now (settings .entry)) (now (image .entry))) a v (now (buffer .entry))) ⌝ }
 {
     if !host::parts_sound(member, bus, pins, settings, image) {
         return ListAnswer::Refused(Refusal::Unsound);
@@ -43,7 +70,7 @@ pub(crate) fn command<'a>(
     if buffer.len() < 9 {
         return ListAnswer::Refused(Refusal::BufferShort);
     }
-    put_command(buffer, bus, pins, address, value);
+    put_command(buffer, bus, pins, strings);
     ListAnswer::Listed { n: 1, t: 3 }
 }
 

@@ -9,8 +9,11 @@ mod lists;
 mod runs;
 
 ghost use mathlib.Core.Path.{_≡_};
+ghost use Prim.Native.Nat.{ℕ};
 ghost use lib.ListN.{length};
 ghost use Rattle.update.specs.Update.{updateOf, updateBuffer, chipResetOf, clearOf, commandBuffer, resetBuffer, clearOpensBuffer, clearShortsBuffer, listNumber};
+ghost use Rattle.update.specs.Runs.{commandStrings};
+use crate::commands::Strings;
 use host::Record;
 use map::Refusal;
 
@@ -75,8 +78,7 @@ pub fn reset(mut r: Record, buffer: &mut [u8]) -> Updated
         &r.settings,
         &r.image,
         buffer,
-        0x0A9,
-        0xFF,
+        commands::RESET,
     );
     let believed = r.image;
     let values = commands::after_reset(answer, r.member as usize, believed);
@@ -87,10 +89,10 @@ pub fn reset(mut r: Record, buffer: &mut [u8]) -> Updated
     }
 }
 
-// The command at `address`, by one write of 0Fh.
-fn clear(r: Record, buffer: &mut [u8], address: usize) -> Updated
+// A command that leaves the record as it is.
+fn clear(r: Record, buffer: &mut [u8], strings: Strings) -> Updated
     ensures { λ x. ⌜ x ≡ clearOf r (length (now (buffer .entry))) ⌝ }
-    ensures { λ _. ⌜ now (buffer .exit) ≡ commandBuffer r address 0x0F (now (buffer .entry)) ⌝ }
+    ensures { λ _. ⌜ ((a v : ℕ) → strings ≡ commandStrings a v → now (buffer .exit) ≡ commandBuffer r a v (now (buffer .entry))) ⌝ }
 {
     let answer = commands::command(
         r.member,
@@ -99,8 +101,7 @@ fn clear(r: Record, buffer: &mut [u8], address: usize) -> Updated
         &r.settings,
         &r.image,
         buffer,
-        address,
-        0x0F,
+        strings,
     );
     Updated {
         answer: answer,
@@ -113,7 +114,7 @@ pub fn clear_opens(r: Record, buffer: &mut [u8]) -> Updated
     ensures { λ x. ⌜ x ≡ clearOf r (length (now (buffer .entry))) ⌝ }
     ensures { λ _. ⌜ now (buffer .exit) ≡ clearOpensBuffer r (now (buffer .entry)) ⌝ }
 {
-    clear(r, buffer, 0x0A7)
+    clear(r, buffer, commands::CLEAR_OPENS)
 }
 
 // Clear the short bits of the chip.
@@ -121,5 +122,5 @@ pub fn clear_shorts(r: Record, buffer: &mut [u8]) -> Updated
     ensures { λ x. ⌜ x ≡ clearOf r (length (now (buffer .entry))) ⌝ }
     ensures { λ _. ⌜ now (buffer .exit) ≡ clearShortsBuffer r (now (buffer .entry)) ⌝ }
 {
-    clear(r, buffer, 0x0A8)
+    clear(r, buffer, commands::CLEAR_SHORTS)
 }

@@ -21,26 +21,14 @@ pub(crate) struct Wiring {
     pub pins: u8,
 }
 
-// The data bytes of a write go behind the two head bytes of its part of the buffer,
-fn put_data(part: &mut [u8], settings: &[u8], start: usize, len: usize)
-    requires { ⌜ (2 + len ≤ length (now part)) × (start + len ≤ length (now settings)) ⌝ }
-    ensures { λ _. ⌜ now (part .exit) ≡ sets (now (part .entry)) 2 (take len (drop start (now (settings .entry)))) ⌝ }
+// `len` bytes of `from`, from `start` on, go to the places of `to` from `at` on.
+pub(crate) fn copy(to: &mut [u8], at: usize, from: &[u8], start: usize, len: usize)
+    requires { ⌜ (at + len ≤ length (now to)) × (start + len ≤ length (now from)) ⌝ }
+    ensures { λ _. ⌜ now (to .exit) ≡ sets (now (to .entry)) at (take len (drop start (now (from .entry)))) ⌝ }
 {
     let mut i: usize = 0;
     while i < len {
-        part[2 + i] = settings[start + i];
-        i += 1;
-    }
-}
-
-// and to their addresses in the chip image.
-fn take_data(image: &mut [u8; 908], settings: &[u8], start: usize, len: usize)
-    requires { ⌜ (length (now image) ≡ 908) × (length (now settings) ≡ 908) × (start + len ≤ 908) ⌝ }
-    ensures { λ _. ⌜ now (image .exit) ≡ sets (now (image .entry)) start (take len (drop start (now (settings .entry)))) ⌝ }
-{
-    let mut i: usize = 0;
-    while i < len {
-        image[start + i] = settings[start + i];
+        to[at + i] = from[start + i];
         i += 1;
     }
 }
@@ -58,7 +46,7 @@ pub(crate) fn put_transaction(
 {
     part[0] = burst::head_first(wiring.bus, wiring.pins, start);
     part[1] = burst::head_second(wiring.bus, start);
-    put_data(part, settings, start, len);
+    copy(part, 2, settings, start, len);
 }
 
 // n and t, and the length of the enabling write if there is one.
@@ -68,7 +56,7 @@ fn put_header(buffer: &mut [u8], n: usize, t: usize, first: usize)
 {
     burst::put_size(buffer, 0, n);
     burst::put_size(buffer, 2, t);
-    if first == 1 {
+    if 0 < first {
         burst::put_size(buffer, 4, 3);
     }
 }
@@ -112,7 +100,7 @@ fn put_first(
 {
     if first == 1 {
         put_transaction(&mut buffer[at..], wiring, settings, 0, 1);
-        take_data(image, settings, 0, 1);
+        copy(image, 0, settings, 0, 1);
     }
 }
 
@@ -139,7 +127,7 @@ fn put_writes<'a>(
         let start = runs::first_differing(settings, old, from);
         let end = runs::run_end(kinds, matrix, settings, old, start + 1);
         put_transaction(&mut buffer[at..], wiring, settings, start, end - start);
-        take_data(image, settings, start, end - start);
+        copy(image, start, settings, start, end - start);
         at += end - start + 2;
         from = end;
         i += 1;

@@ -1,5 +1,7 @@
 -- `update::reset` meets its contract.
 -- Assumes nothing.
+use mathlib.Core.Path.{refl}
+use Rattle.burst.specs.Burst.{headFirst, headSecond, transactionOf, listOf, encode}
 use Rattle.update.proofs.Fixed.{reset-is}
 use borrow.Author.Needs.{needs}
 use Rattle.update.proofs.reset.Statement.{statement}
@@ -18,7 +20,8 @@ same-length : tie.Need-same-length
 same-length c = search needs
 
 returns : tie.Need-returns
-returns c = (reset-is _ _ _ _ (c .before .before .before .before .command .ensures .0) (c .after-reset .ensures), c .before .before .before .before .command .ensures .1)
+unfolding encode listOf transactionOf headFirst headSecond
+returns c = (reset-is _ _ _ _ (c .before .before .before .before .command .ensures .0) (c .after-reset .ensures), c .before .before .before .before .command .ensures .1 0x0A9 0xFF refl)
 
 pub reset-spec : {M : Type 1} → statement M
 reset-spec =

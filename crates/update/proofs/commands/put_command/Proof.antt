@@ -1,55 +1,58 @@
 -- `update::commands::put_command` meets its contract.
 -- Assumes nothing.
-use Rattle.update.proofs.Fixed.{command-written}
+use mathlib.Core.Path.{_≡_}
+use lib.ListN.{length, length-set}
 use native.Mathlib.Omega.{arith}
-use lib.ListN.{length-set}
-use lib.ListN.{set}
-use mathlib.Core.Path.{_∙_}
+use Rattle.update.proofs.Fixed.{i2c-written, spi-written}
 use borrow.Author.Needs.{needs}
 use Rattle.update.proofs.commands.put_command.Statement.{statement}
 use Rattle.update.proofs.commands.put_command.Tie as tie
 
-put-size-requires : tie.Need-put-size-requires
-put-size-requires c κs = search needs
+mul-string : tie.Need-mul-string
+mul-string c = search needs
 
-put-size-requires-2 : tie.Need-put-size-requires-2
-put-size-requires-2 c κs = search needs
+array-read-string : tie.Need-array-read-string
+array-read-string c = search needs
 
-put-size-requires-3 : tie.Need-put-size-requires-3
-put-size-requires-3 c κs = search needs
+array-write-string : tie.Need-array-write-string
+array-write-string c = search needs
 
-head-first-requires : tie.Need-head-first-requires
-head-first-requires c κs = search needs
+slice-aggregate-copy : tie.Need-slice-aggregate-copy
+slice-aggregate-copy c = search needs
 
-slice-write-buffer : tie.Need-slice-write-buffer
-slice-write-buffer c = search needs
-
-head-second-requires : tie.Need-head-second-requires
-head-second-requires c κs = search needs
-
-slice-write-buffer-2 : tie.Need-slice-write-buffer-2
-slice-write-buffer-2 c = omega (arith, length-set (c .before .before .before .before .put-size3 .last .0) 6 (c .before .head-first .result), c .before .before .before .before .put-size3 .kept .0, c .before .before .before .before .before .before .before .before .put-size2 .kept .0, c .before .before .before .before .before .before .before .before .before .before .before .before .put-size .kept .0, c .before .before .before .before .before .before .before .before .before .before .before .before .before .before .before .pre)
-
-slice-write-buffer-3 : tie.Need-slice-write-buffer-3
-slice-write-buffer-3 c = omega (arith, length-set (c .before .before .before .before .put-size3 .last .0) 6 (c .before .head-first .result), length-set (set (c .before .before .before .before .put-size3 .last .0) 6 (c .before .head-first .result)) 7 (c .head-second .result), c .before .before .before .before .put-size3 .kept .0, c .before .before .before .before .before .before .before .before .put-size2 .kept .0, c .before .before .before .before .before .before .before .before .before .before .before .before .put-size .kept .0, c .before .before .before .before .before .before .before .before .before .before .before .before .before .before .before .pre)
+copy-requires : tie.Need-copy-requires
+copy-requires c κs = let size : length (c .before .before .before .before .before .args .strings .i2c) ≡ 9 = search needs in (c .before .before .before .before .before .pre, simp length-set (omega (arith, size)))
 
 same-length : tie.Need-same-length
-same-length c = length-set (set (set (c .before .before .before .before .put-size3 .last .0) 6 (c .before .head-first .result)) 7 (c .head-second .result)) 8 _ ∙ length-set (set (c .before .before .before .before .put-size3 .last .0) 6 (c .before .head-first .result)) 7 _ ∙ length-set (c .before .before .before .before .put-size3 .last .0) 6 _ ∙ c .before .before .before .before .put-size3 .kept .0 ∙ c .before .before .before .before .before .before .before .before .put-size2 .kept .0 ∙ c .before .before .before .before .before .before .before .before .before .before .before .before .put-size .kept .0
+same-length c = search needs
 
 returns : tie.Need-returns
-returns c = command-written _ _ _ _ _ _ _ _ _ _ (c .before .before .before .before .before .before .before .before .before .before .before .before .put-size .ensures) (c .before .before .before .before .before .before .before .before .put-size2 .ensures) (c .before .before .before .before .put-size3 .ensures) (c .before .head-first .ensures) (c .head-second .ensures) (c .before .before .before .before .before .before .before .before .before .before .before .before .before .before .before .pre)
+returns c = i2c-written _ _ _ _ _ (c .before .before .before .before .before .before .before .before .pre) (c .before .before .before .before .before .before .if1 .taken) (c .before .before .copy .ensures)
+
+slice-aggregate-copy-2 : tie.Need-slice-aggregate-copy-2
+slice-aggregate-copy-2 c = search needs
+
+copy-requires-2 : tie.Need-copy-requires-2
+copy-requires-2 c κs = let size : length (c .before .before .before .before .before .args .strings .spi) ≡ 9 = search needs in (c .before .before .before .before .before .pre, omega (arith, size))
+
+same-length-2 : tie.Need-same-length-2
+same-length-2 c = search needs
+
+returns-2 : tie.Need-returns-2
+returns-2 c = spi-written _ _ _ _ _ (c .before .before .before .before .before .before .before .before .pre) (c .before .before .before .before .before .before .if1 .left) (c .before .before .copy2 .ensures)
 
 pub put-command-spec : {M : Type 1} → statement M
 put-command-spec =
     tie.close
     (tie.spec
-    put-size-requires
-    put-size-requires-2
-    put-size-requires-3
-    head-first-requires
-    slice-write-buffer
-    head-second-requires
-    slice-write-buffer-2
-    slice-write-buffer-3
+    mul-string
+    array-read-string
+    array-write-string
+    slice-aggregate-copy
+    copy-requires
     same-length
-    returns)
+    returns
+    slice-aggregate-copy-2
+    copy-requires-2
+    same-length-2
+    returns-2)

@@ -21,14 +21,14 @@ part-put-transaction-end c = search needs
 put-transaction-requires : tie.Need-put-transaction-requires
 put-transaction-requires c κs = (rw (tail-length (c .before .before .before .before .args .buffer .now) (c .before .before .before .before .args .at)) (omega arith), omega arith)
 
-take-data-requires : tie.Need-take-data-requires
-take-data-requires c κs = (c .before .before .before .before .before .before .before .before .pre .2, c .before .before .before .before .before .before .before .before .pre .1, omega arith)
+copy-requires : tie.Need-copy-requires
+copy-requires c κs = (omega arith, omega arith)
 
 same-length : tie.Need-same-length
 same-length c = same-len-mid (c .before .before .before .before .before .before .before .before .before .args .at) (length (c .before .before .before .before .before .before .before .before .before .args .buffer .now) - c .before .before .before .before .before .before .before .before .before .args .at) (c .before .before .before .before .before .before .before .before .before .args .buffer .now) (c .before .before .before .before .put-transaction .last .0) (c .before .before .before .before .put-transaction .kept .0)
 
 returns : tie.Need-returns
-returns c = first-written _ _ _ _ _ (c .before .before .before .before .before .before .before .before .before .args .settings .now) _ _ _ (c .before .before .before .before .before .before .if1 .taken) (first-part _ _ (c .before .before .before .before .before .before .before .before .before .args .settings .now) _ _ _ (c .before .before .before .before .before .before .before .before .before .pre .1) (omega arith) (c .before .before .before .before .put-transaction .ensures)) (c .take-data .ensures)
+returns c = first-written _ _ _ _ _ (c .before .before .before .before .before .before .before .before .before .args .settings .now) _ _ _ (c .before .before .before .before .before .before .if1 .taken) (first-part _ _ (c .before .before .before .before .before .before .before .before .before .args .settings .now) _ _ _ (c .before .before .before .before .before .before .before .before .before .pre .1) (omega arith) (c .before .before .before .before .put-transaction .ensures)) (c .copy .ensures)
 
 returns-2 : tie.Need-returns-2
 returns-2 c = first-none _ _ _ _ _ _ _ (omega arith)
@@ -41,7 +41,7 @@ put-first-spec =
     part-put-transaction-start
     part-put-transaction-end
     put-transaction-requires
-    take-data-requires
+    copy-requires
     same-length
     returns
     returns-2)

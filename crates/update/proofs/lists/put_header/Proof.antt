@@ -19,7 +19,7 @@ same-length : tie.Need-same-length
 same-length c = search needs
 
 returns : tie.Need-returns
-returns c = header-first _ _ _ _ _ _ _ (c .before .before .before .before .if1 .taken) (c .before .before .before .before .before .before .before .before .before .before .before .put-size .ensures) (c .before .before .before .before .before .before .before .put-size2 .ensures) (c .before .before .put-size3 .ensures)
+returns c = header-first _ _ _ _ _ _ _ (omega arith) (c .before .before .before .before .before .before .before .before .before .before .before .put-size .ensures) (c .before .before .before .before .before .before .before .put-size2 .ensures) (c .before .before .put-size3 .ensures)
 
 same-length-2 : tie.Need-same-length-2
 same-length-2 c = search needs

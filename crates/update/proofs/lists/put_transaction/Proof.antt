@@ -19,14 +19,14 @@ head-second-requires c κs = search needs
 slice-write-part-2 : tie.Need-slice-write-part-2
 slice-write-part-2 c = simp length-set (omega arith)
 
-put-data-requires : tie.Need-put-data-requires
-put-data-requires c κs = (simp length-set (omega arith), omega arith)
+copy-requires : tie.Need-copy-requires
+copy-requires c κs = (simp length-set (omega arith), omega arith)
 
 same-length : tie.Need-same-length
-same-length c = transaction-size (c .before .before .before .before .before .before .before .before .args .part .now) _ (c .before .before .before .before .before .before .before .before .args .settings .now) (c .before .before .before .before .before .before .before .before .args .start) (c .before .before .before .before .before .before .before .before .args .len) (c .before .before .before .before .before .head-first .result) (c .before .before .before .before .head-second .result) (c .before .before .put-data .ensures)
+same-length c = transaction-size (c .before .before .before .before .before .before .before .before .args .part .now) _ (c .before .before .before .before .before .before .before .before .args .settings .now) (c .before .before .before .before .before .before .before .before .args .start) (c .before .before .before .before .before .before .before .before .args .len) (c .before .before .before .before .before .head-first .result) (c .before .before .before .before .head-second .result) (c .before .before .copy .ensures)
 
 returns : tie.Need-returns
-returns c = transaction-written (c .before .before .before .before .before .before .before .before .args .part .now) _ (c .before .before .before .before .before .before .before .before .args .settings .now) (c .before .before .before .before .before .before .before .before .args .wiring .bus) (c .before .before .before .before .before .before .before .before .args .wiring .pins) (c .before .before .before .before .before .before .before .before .args .start) (c .before .before .before .before .before .before .before .before .args .len) _ _ (c .before .before .before .before .before .head-first .ensures) (c .before .before .before .before .head-second .ensures) (c .before .before .put-data .ensures)
+returns c = transaction-written (c .before .before .before .before .before .before .before .before .args .part .now) _ (c .before .before .before .before .before .before .before .before .args .settings .now) (c .before .before .before .before .before .before .before .before .args .wiring .bus) (c .before .before .before .before .before .before .before .before .args .wiring .pins) (c .before .before .before .before .before .before .before .before .args .start) (c .before .before .before .before .before .before .before .before .args .len) _ _ (c .before .before .before .before .before .head-first .ensures) (c .before .before .before .before .head-second .ensures) (c .before .before .copy .ensures)
 
 pub put-transaction-spec : {M : Type 1} → statement M
 put-transaction-spec =
@@ -36,6 +36,6 @@ put-transaction-spec =
     slice-write-part
     head-second-requires
     slice-write-part-2
-    put-data-requires
+    copy-requires
     same-length
     returns)

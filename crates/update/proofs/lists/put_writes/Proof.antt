@@ -44,11 +44,11 @@ sub-put-transaction-2 c = omega (arith, c .before .run-end .ensures .least)
 put-transaction-requires : tie.Need-put-transaction-requires Inv-loop μ-loop
 put-transaction-requires c κs = (rw (tail-length (c .before .before .before .before .loop .buffer) (c .before .before .before .before .loop .at)) (omega (arith, written-room _ _ _ _ _ (c .before .before .before .before .before .before .before .before .before .pre .1) _ _ _ _ _ _ _ _ _ _ (c .before .before .before .before .before .before .before .before .before .args .writes) (c .before .before .before .before .loop .inv .1) (c .before .before .first-differing .ensures) (going-below _ _ _ _ _ _ _ (c .before .before .before .before .loop .inv .1 .going) (omega (arith, c .before .before .before .before .before .before .before .before .before .pre .3)) (c .before .before .first-differing .ensures)) (c .before .run-end .ensures) (omega arith) (c .before .before .before .before .before .before .before .before .before .pre .4))), omega (arith, c .before .run-end .ensures .most, c .before .run-end .ensures .least, c .before .before .before .before .before .before .before .before .before .pre .1 .settings-size))
 
-sub-take-data : tie.Need-sub-take-data Inv-loop μ-loop
-sub-take-data c = omega (arith, c .before .before .before .before .before .run-end .ensures .least)
+sub-copy : tie.Need-sub-copy Inv-loop μ-loop
+sub-copy c = omega (arith, c .before .before .before .before .before .run-end .ensures .least)
 
-take-data-requires : tie.Need-take-data-requires Inv-loop μ-loop
-take-data-requires c κs = (c .before .before .before .before .before .before .before .before .loop .inv .1 .image-size, c .before .before .before .before .before .before .before .before .before .before .before .before .before .pre .1 .settings-size, omega (arith, c .before .before .before .before .before .run-end .ensures .most, c .before .before .before .before .before .run-end .ensures .least))
+copy-requires : tie.Need-copy-requires Inv-loop μ-loop
+copy-requires c κs = (omega (arith, c .before .before .before .before .before .before .before .before .loop .inv .1 .image-size, c .before .before .before .before .before .run-end .ensures .most, c .before .before .before .before .before .run-end .ensures .least), omega (arith, c .before .before .before .before .before .before .before .before .before .before .before .before .before .pre .1 .settings-size, c .before .before .before .before .before .run-end .ensures .most, c .before .before .before .before .before .run-end .ensures .least))
 
 sub-at : tie.Need-sub-at Inv-loop μ-loop
 sub-at c = omega (arith, c .before .before .before .before .before .before .run-end .ensures .least)
@@ -66,7 +66,7 @@ loop-less : tie.Need-loop-less Inv-loop μ-loop
 loop-less c = omega arith
 
 loop-again : tie.Need-loop-again Inv-loop μ-loop
-loop-again c = (omega arith, written-turn _ _ _ _ _ (c .before .before .before .before .before .before .before .before .before .before .before .before .before .before .pre .1) _ _ _ _ _ _ _ _ _ _ _ _ (c .before .before .before .before .before .before .before .before .before .before .before .before .before .before .args .writes) (c .before .before .before .before .before .before .before .before .before .loop .inv .1) (c .before .before .before .before .before .before .before .first-differing .ensures) (going-below _ _ _ _ _ _ _ (c .before .before .before .before .before .before .before .before .before .loop .inv .1 .going) (omega (arith, c .before .before .before .before .before .before .before .before .before .before .before .before .before .before .pre .3)) (c .before .before .before .before .before .before .before .first-differing .ensures)) (c .before .before .before .before .before .before .run-end .ensures) (omega arith) (c .before .before .before .before .before .before .before .before .before .before .before .before .before .before .pre .4) (c .before .before .before .before .put-transaction .ensures) (c .take-data .ensures))
+loop-again c = (omega arith, written-turn _ _ _ _ _ (c .before .before .before .before .before .before .before .before .before .before .before .before .before .before .pre .1) _ _ _ _ _ _ _ _ _ _ _ _ (c .before .before .before .before .before .before .before .before .before .before .before .before .before .before .args .writes) (c .before .before .before .before .before .before .before .before .before .loop .inv .1) (c .before .before .before .before .before .before .before .first-differing .ensures) (going-below _ _ _ _ _ _ _ (c .before .before .before .before .before .before .before .before .before .loop .inv .1 .going) (omega (arith, c .before .before .before .before .before .before .before .before .before .before .before .before .before .before .pre .3)) (c .before .before .before .before .before .before .before .first-differing .ensures)) (c .before .before .before .before .before .before .run-end .ensures) (omega arith) (c .before .before .before .before .before .before .before .before .before .before .before .before .before .before .pre .4) (c .before .before .before .before .put-transaction .ensures) (c .copy .ensures))
 
 same-length : tie.Need-same-length Inv-loop μ-loop
 same-length c = c .before .loop .inv .1 .size
@@ -89,8 +89,8 @@ put-writes-spec =
     part-put-transaction-end
     sub-put-transaction-2
     put-transaction-requires
-    sub-take-data
-    take-data-requires
+    sub-copy
+    copy-requires
     sub-at
     add-at
     add-at-2
