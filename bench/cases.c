@@ -62,11 +62,33 @@ static void list_one_lamp(struct situation *s)
     update(s);
 }
 
-/* The list of all settings, for a chip at reset. */
-static void list_everything(struct situation *s)
+/* The list after a power loss, for a chip at reset. */
+static void list_all_lit(struct situation *s)
 {
     lose_power(s);
     update(s);
+}
+
+/* Every writable register differs from its reset value, which the chip still holds: the update with the most bytes. */
+static void change_all(struct situation *s)
+{
+    for (uint32_t address = 0; address < LP586X_REGISTERS; address++)
+        for (uint32_t bit = 0; bit < 8; bit++)
+            if (lp586x_register(s->record, sizeof s->record, address, s->chip[3 + address] ^ 1u << bit) == 0)
+                break;
+    lose_power(s);
+}
+
+static void list_all_registers(struct situation *s)
+{
+    static const uint32_t largest[] = {702, 84, 270, 302, 518};
+
+    change_all(s);
+    update(s);
+    if (s->t != largest[s->member]) {
+        fprintf(stderr, "bench: the full update has %u bytes\n", s->t);
+        exit(1);
+    }
 }
 
 static void fill_scene(struct situation *s)
@@ -152,6 +174,26 @@ static uint32_t call_reset(const struct interface *calls, struct situation *s)
     return calls->reset(s->record, sizeof s->record, s->buffer, sizeof s->buffer, &s->n, &s->t);
 }
 
+static uint32_t call_clear_opens(const struct interface *calls, struct situation *s)
+{
+    return calls->clear_opens(s->record, sizeof s->record, s->buffer, sizeof s->buffer, &s->n, &s->t);
+}
+
+static uint32_t call_clear_shorts(const struct interface *calls, struct situation *s)
+{
+    return calls->clear_shorts(s->record, sizeof s->record, s->buffer, sizeof s->buffer, &s->n, &s->t);
+}
+
+static uint32_t call_chip_at_reset(const struct interface *calls, struct situation *s)
+{
+    return calls->chip_at_reset(s->chip, sizeof s->chip, s->member, 0, 1);
+}
+
+static uint32_t call_chip_power_lost(const struct interface *calls, struct situation *s)
+{
+    return calls->chip_power_lost(s->chip, sizeof s->chip);
+}
+
 static uint32_t call_feed(const struct interface *calls, struct situation *s)
 {
     return calls->chip_feed(s->chip, sizeof s->chip, s->list, s->list_size);
@@ -171,12 +213,18 @@ const struct bench_case cases[] = {
     {"Scene, 50 entries", fill_scene, call_scene},
     {"Update, one lamp", change_one_lamp, call_update},
     {"Update after a power loss, all lit", lose_power, call_update},
+    {"Update, full", change_all, call_update},
     {"Update, nothing changed", as_it_is, call_update},
     {"Reset", as_it_is, call_reset},
     {"Power lost", as_it_is, call_power_lost},
-    {"Feed, list of one lamp", list_one_lamp, call_feed},
-    {"Feed, list after a power loss", list_everything, call_feed},
+    {"Clear opens", as_it_is, call_clear_opens},
+    {"Clear shorts", as_it_is, call_clear_shorts},
     {"Faults", fill_faults, call_faults},
+    {"Chip at reset", as_it_is, call_chip_at_reset},
+    {"Chip's power lost", as_it_is, call_chip_power_lost},
+    {"Feed, list of one lamp", list_one_lamp, call_feed},
+    {"Feed, list after a power loss, all lit", list_all_lit, call_feed},
+    {"Feed, list of the full update", list_all_registers, call_feed},
 };
 
 const int case_count = sizeof cases / sizeof *cases;

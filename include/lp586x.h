@@ -15,7 +15,9 @@
  * pointer may be null, even with length 0.
  *
  * Bytes of a record: member, bus, pins, 908 settings, 908 of the chip as the host believes it. Of a chip: member, bus, pins, 908
- * registers. A call refuses bytes that are not sound; they are the driver's to change.
+ * registers. They are the driver's to change. They are sound if lp586x_open takes the member, bus and pins, and reserved bits and addresses
+ * that are not writable hold their reset values; a chip's fault bytes 064h to 0A6h may hold anything. Where 14 stands with "(size)" below,
+ * the size alone is tested.
  */
 #ifndef LP586X_H
 #define LP586X_H
@@ -48,33 +50,36 @@ uint32_t lp586x_open(uint8_t *record, size_t record_size, uint32_t member, uint3
 /* One whole register of the settings. 14, 4, 5 (a value above 255 too). */
 uint32_t lp586x_register(uint8_t *record, size_t record_size, uint32_t address, uint32_t value);
 
-/* The level of a dot, 8 or 16 bits by the data mode of the settings. 14, 6, 7. */
+/* The level of a dot: 8 bits at data mode 0 or 1 of the settings, else 16 bits. 14, 6, 7. */
 uint32_t lp586x_lamp(uint8_t *record, size_t record_size, uint32_t line, uint32_t sink, uint32_t level);
 
-/* The brightness group of a dot, 0 for none. 14, 6, 8. */
+/* The brightness group of a dot, 1 to 3, or 0 for none. 14, 6, 8. */
 uint32_t lp586x_group(uint8_t *record, size_t record_size, uint32_t line, uint32_t sink, uint32_t group);
 
 /* A dot on (1) or off (0). 14, 6, 8. */
 uint32_t lp586x_switch(uint8_t *record, size_t record_size, uint32_t line, uint32_t sink, uint32_t state);
 
-/* Many levels: a count n of two bytes, n dot numbers of one byte, n levels of two bytes, low byte first. All or nothing. 14, 9, 6, 7. */
+/* Many levels: a count n of two bytes, n dot numbers 18 x line + sink of one byte, n levels of two bytes, low byte first. All or nothing;
+ * a dot twice takes the last level. 14, 9 (size under 2 or not 2 + 3n), 6 (any dot), 7 (any level). */
 uint32_t lp586x_scene(uint8_t *record, size_t record_size, const uint8_t *scene, size_t scene_size);
 
-/* The chip has lost its power: it holds its reset values, the settings are kept. 14. */
+/* The chip has lost its power: it holds its reset values. The settings are kept, so that the next update sends them. 14. */
 uint32_t lp586x_power_lost(uint8_t *record, size_t record_size);
 
 /* ---- Lists of bus writes
  *
  * A list is n, t, n lengths (two bytes each, low byte first), then n transactions of t bytes together: two head bytes and the data. Send
- * each transaction as it stands. Exactly 4 + 2n + t bytes of the buffer are written. */
+ * each transaction as it stands. Exactly 4 + 2n + t bytes of the buffer are written. The record takes the chip to have heard them. */
 
-/* The shortest list that brings the chip to the settings. 0 stores n and t; 10 stores the length needed. 14, 10. */
+/* The shortest list that brings the chip to the settings; t is at most 702. While the settings have the chip off (000h bit 0 clear), it
+ * only turns the chip off, and other settings wait. 0 stores n and t; 10 stores the length needed. 14, 10 (buffer under 4 + 2n + t). */
 uint32_t lp586x_update(uint8_t *record, size_t record_size, uint8_t *buffer, size_t buffer_size, uint32_t *n, uint32_t *t, uint32_t *needed);
 
-/* Every register of the chip to its reset value; the settings are kept, so that the next update sends them. 0 stores n and t. 14, 10. */
+/* Every register of the chip to its reset value; the settings are kept, so that the next update sends them. 0 stores n and t.
+ * 14, 10 (buffer under 9). */
 uint32_t lp586x_reset(uint8_t *record, size_t record_size, uint8_t *buffer, size_t buffer_size, uint32_t *n, uint32_t *t);
 
-/* The open bits, the short bits of the chip to 0; the record is only read. 0 stores n and t. 14, 10. */
+/* The open bits, the short bits of the chip to 0; the record is only read. 0 stores n and t. 14, 10 (buffer under 9). */
 uint32_t lp586x_clear_opens(const uint8_t *record, size_t record_size, uint8_t *buffer, size_t buffer_size, uint32_t *n, uint32_t *t);
 uint32_t lp586x_clear_shorts(const uint8_t *record, size_t record_size, uint8_t *buffer, size_t buffer_size, uint32_t *n, uint32_t *t);
 
@@ -93,7 +98,8 @@ uint32_t lp586x_chip_at_reset(uint8_t *chip, size_t chip_size, uint32_t member, 
 /* A loss of power; a chip whose member is above 4 stays as it is. 14 (size). */
 uint32_t lp586x_chip_power_lost(uint8_t *chip, size_t chip_size);
 
-/* A list, transaction by transaction. 14, 11. */
+/* A list, transaction by transaction, as the chip hears it on the bus: reads and writes to other chips pass by. 14, 11 (size under 4, a
+ * length below 3, lengths that do not add up to t, or a size other than 4 + 2n + t). */
 uint32_t lp586x_chip_feed(uint8_t *chip, size_t chip_size, const uint8_t *list, size_t list_size);
 
 #ifdef __cplusplus

@@ -106,6 +106,46 @@ static void heads_on_spi(void)
     }
 }
 
+/* Reads and other chips' writes pass by, between writes that are heard. */
+static void lists_for_several_chips(void)
+{
+    struct world world, old;
+
+    context("a list for several chips on I2C");
+    start_on(&world, LP5860, 2);
+    list_start();
+    ADD(0x8C, 0x00, 0x11);       /* pins 1 */
+    ADD(0x95, 0x00, 0x22);       /* a read */
+    ADD(0xAC, 0x01, 0x33);       /* every chip */
+    ADD(0xAD, 0x02, 0x44);       /* a read of every chip */
+    ADD(0x94, 0x03, 0x55, 0x56); /* this chip */
+    ADD(0x44, 0x03, 0x66);       /* another device */
+    feed(&world);
+    expect(&world, 0x200, 0x00);
+    expect(&world, 0x201, 0x33);
+    expect(&world, 0x202, 0x00);
+    expect(&world, 0x203, 0x55);
+    expect(&world, 0x204, 0x56);
+    old = world;
+    list_start();
+    ADD(0x88, 0xA9, 0xFF); /* pins 1: its reset */
+    ADD(0x91, 0xA9, 0xFF);
+    ADD(0x98, 0x00, 0x00, 0x58);
+    feed(&world);
+    check(memcmp(world.chip, old.chip, sizeof old.chip) == 0, "a list for other chips changed this one");
+
+    context("reads and writes on SPI");
+    world_open(&world, LP5867, SPI, 0);
+    list_start();
+    ADD(0x00, 0x20, 0x01);
+    ADD(0x80, 0x20, 0x34);
+    ADD(0x80, 0x00, 0x12);
+    ADD(0x2A, 0x40, 0xFF); /* a read of 0A9h */
+    feed(&world);
+    expect(&world, 0x000, 0x01);
+    expect(&world, 0x200, 0x34);
+}
+
 /* ---- Data */
 
 static void rising_addresses(void)
@@ -342,6 +382,7 @@ void group_chip(void)
     group("chip model");
     heads_on_i2c();
     heads_on_spi();
+    lists_for_several_chips();
     rising_addresses();
     end_of_the_map();
     standby();

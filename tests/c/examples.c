@@ -225,6 +225,38 @@ static void settings_survive(void)
     check(outcome.n == 3 && outcome.t == 9, "n is %u, t is %u", outcome.n, outcome.t);
 }
 
+/* A power loss between two updates: the second sends what the chip has lost, and the settings made meanwhile. */
+static void power_dip(uint32_t member, uint32_t bus)
+{
+    struct world world;
+    struct outcome outcome;
+
+    world_open(&world, member, bus, 0);
+    must_set(&world, REGISTER, 0x000, 0x01, 0);
+    must_set(&world, REGISTER, 0x001, 0x58, 0);
+    must_set(&world, GROUP, 0, 1, 2);
+    must_set(&world, LAMP, 0, 0, 7);
+    world_sync(&world);
+    must_set(&world, SWITCH, 0, 0, 0);
+    must_set(&world, LAMP, 0, 1, 8);
+    must_set(&world, POWER_LOST, 0, 0, 0);
+    check(world_chip_power_lost(&world) == 0, "the chip's power loss is refused");
+    outcome = world_sync(&world);
+    check(outcome.n == 5 && outcome.t == 16, "member %u: n is %u, t is %u", member, outcome.n, outcome.t);
+    check(memcmp(world.chip + CHIP_REGISTERS, world.record + SETTINGS, LP586X_REGISTERS) == 0,
+          "member %u: the chip does not hold the settings", member);
+    check(world_sync(&world).n == 0, "member %u: something is sent twice", member);
+}
+
+static void power_dips(void)
+{
+    context("a power loss between two updates");
+    for (uint32_t member = LP5860; member <= LP5868T; member++) {
+        power_dip(member, I2C);
+        power_dip(member, SPI);
+    }
+}
+
 /* The hole 00Dh lies between two writable group bytes of the LP5867, 1C6h-1FFh between two stretches of the LP5860. */
 static void holes_are_not_sent(void)
 {
@@ -305,6 +337,7 @@ void group_examples(void)
     commands();
     chip_off();
     settings_survive();
+    power_dips();
     holes_are_not_sent();
     largest_updates();
     longest_list();

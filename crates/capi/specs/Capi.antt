@@ -30,6 +30,7 @@ imageAt from bytes = take 908 (drop from bytes)
 unfoldable pub recordIn : List ℕ → Record
 recordIn bytes = recordOf (getD bytes 0 0) (getD bytes 1 0) (getD bytes 2 0) (imageAt 3 bytes) (imageAt 911 bytes)
 
+-- the bytes of a record, in the same order
 unfoldable pub recordBytes : Record → List ℕ
 recordBytes r = r .member ∷ r .bus ∷ r .pins ∷ r .settings ++ r .image
 
@@ -37,13 +38,15 @@ recordBytes r = r .member ∷ r .bus ∷ r .pins ∷ r .settings ++ r .image
 unfoldable pub chipIn : List ℕ → Chip
 chipIn bytes = chipOf (getD bytes 0 0) (getD bytes 1 0) (getD bytes 2 0) (imageAt 3 bytes)
 
+-- the bytes of a chip, in the same order
 unfoldable pub chipBytes : Chip → List ℕ
 chipBytes c = c .member ∷ c .bus ∷ c .pins ∷ c .registers
 
--- "A record is LP586X_RECORD_SIZE bytes in the caller's memory, a chip of the model LP586X_CHIP_SIZE"
+-- "A record is LP586X_RECORD_SIZE bytes in the caller's memory,"
 unfoldable pub recordSized : List ℕ → Bool
 recordSized bytes = eqb (length bytes) 1819
 
+-- "a chip of the model LP586X_CHIP_SIZE"
 unfoldable pub chipSized : List ℕ → Bool
 chipSized bytes = eqb (length bytes) 911
 
@@ -61,44 +64,48 @@ settingNumber bytes x = answerNumber (whenSized (recordSized bytes) (x .answer))
 unfoldable pub settingBytes : List ℕ → Changed → List ℕ
 settingBytes bytes x = cond (accepted (whenSized (recordSized bytes) (x .answer))) (recordBytes (x .state)) bytes
 
--- the same of a chip
+-- the same number of a call on a chip
 unfoldable pub chipNumber : List ℕ → Answer → ℕ
 chipNumber bytes answer = answerNumber (whenSized (chipSized bytes) answer)
 
+-- the same bytes of a chip
 unfoldable pub chipAfter : List ℕ → Answer → Chip → List ℕ
 chipAfter bytes answer c = cond (accepted (whenSized (chipSized bytes) answer)) (chipBytes c) bytes
 
 -- ---- Calls that write a list
 
+-- "14 unsound record or chip, or its size is wrong", as the answer of a list
 unfoldable pub listAnswer : List ℕ → Updated → ListAnswer
 listAnswer bytes x = cond (recordSized bytes) (x .answer) (Refused Unsound)
 
+-- "A refused call changes no byte that was lent to it": the record's bytes after a list, or the old ones
 unfoldable pub listBytes : List ℕ → Updated → List ℕ
 listBytes bytes x = cond (isListed (listAnswer bytes x)) (recordBytes (x .state)) bytes
 
--- the buffer as a call on the record leaves it
+-- the buffer as the call on the record leaves it, or as it was where the size is wrong
 unfoldable pub bufferAfter : List ℕ → List ℕ → List ℕ → List ℕ
 bufferAfter bytes new old = cond (recordSized bytes) new old
 
--- "0 stores n and t;"
+-- "0 stores n and t": n
 abbrev pub nAfter : ListAnswer → ℕ → ℕ
 nAfter (Listed n t) old = n
 nAfter (Short needed) old = old
-nAfter (Refused r) old = old
+nAfter (Refused refusal) old = old
 
+-- "0 stores n and t": t
 abbrev pub tAfter : ListAnswer → ℕ → ℕ
 tAfter (Listed n t) old = t
 tAfter (Short needed) old = old
-tAfter (Refused r) old = old
+tAfter (Refused refusal) old = old
 
 -- "10 stores the length needed."
 abbrev pub neededAfter : ListAnswer → ℕ → ℕ
 neededAfter (Listed n t) old = old
 neededAfter (Short needed) old = needed
-neededAfter (Refused r) old = old
+neededAfter (Refused refusal) old = old
 
 -- every value of an answer fits the 32 bits that it is stored in
 abbrev pub Fits : ListAnswer → Type 0
 Fits (Listed n t) = (n < 2 ^ 32) × (t < 2 ^ 32)
 Fits (Short needed) = needed < 2 ^ 32
-Fits (Refused r) = Unit
+Fits (Refused refusal) = Unit

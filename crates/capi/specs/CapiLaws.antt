@@ -33,6 +33,7 @@ front-back (m ∷ []) h = absurd (omega arith)
 front-back (m ∷ b ∷ []) h = absurd (omega arith)
 front-back (m ∷ b ∷ p ∷ l) h = refl
 
+-- bytes of the right size are those of the record that they hold
 pub record-round : (bytes : List ℕ) → length bytes ≡ 1819 → recordBytes (recordIn bytes) ≡ bytes
 unfolding recordIn recordBytes
 record-round bytes h =
@@ -41,12 +42,14 @@ record-round bytes h =
     ∙ ap (λ (l : List ℕ). getD bytes 0 0 ∷ getD bytes 1 0 ∷ getD bytes 2 0 ∷ l) (take-append-drop 908 (drop 3 bytes))
     ∙ front-back bytes (omega arith)
 
+-- and those of the chip
 pub chip-round : (bytes : List ℕ) → length bytes ≡ 911 → chipBytes (chipIn bytes) ≡ bytes
 unfolding chipIn chipBytes
 chip-round bytes h =
     ap (λ (l : List ℕ). getD bytes 0 0 ∷ getD bytes 1 0 ∷ getD bytes 2 0 ∷ l) (take-all 908 (drop 3 bytes) (omega (arith, length-drop 3 bytes)))
     ∙ front-back bytes (omega arith)
 
+-- a record is read back from its bytes
 pub record-back : (r : Record) → length (r .settings) ≡ 908 → length (r .image) ≡ 908 → recordIn (recordBytes r) ≡ r
 unfolding recordIn recordBytes
 record-back r hs hi =
@@ -54,12 +57,14 @@ record-back r hs hi =
     ∙ ap (λ (l : List ℕ). recordOf (r .member) (r .bus) (r .pins) (r .settings) (take 908 l)) (drop-at (r .settings) (r .image) 908 hs)
     ∙ ap (λ (l : List ℕ). recordOf (r .member) (r .bus) (r .pins) (r .settings) l) (take-all 908 (r .image) (omega arith))
 
+-- and a chip
 pub chip-back : (c : Chip) → length (c .registers) ≡ 908 → chipIn (chipBytes c) ≡ c
 unfolding chipIn chipBytes
 chip-back c h = ap (λ (l : List ℕ). chipOf (c .member) (c .bus) (c .pins) l) (take-all 908 (c .registers) (omega arith))
 
 -- ---- 0 is acceptance alone
 
+-- no refusal has the number 0
 refusal-some : (x : Refusal) → refusalNumber x ≡ 0 → ⊥
 refusal-some Member e = omega arith
 refusal-some Bus e = omega arith
@@ -75,10 +80,12 @@ refusal-some ListSizes e = omega arith
 refusal-some FaultLength e = omega arith
 refusal-some Unsound e = omega arith
 
+-- a call that answers 0 was accepted
 pub zero-accepted : (answer : Answer) → answerNumber answer ≡ 0 → accepted answer ≡ true
 zero-accepted answers.the-variants.Accepted e = refl
 zero-accepted (answers.the-variants.Refused x) e = absurd (refusal-some x e)
 
+-- and one that writes a list wrote it
 pub zero-listed : (answer : ListAnswer) → listNumber answer ≡ 0 → isListed answer ≡ true
 zero-listed (Listed n t) e = refl
 zero-listed (Short needed) e = absurd (omega arith)
@@ -90,10 +97,12 @@ answer-keeps : (answer : Answer) (new old : List ℕ) → (answerNumber answer �
 answer-keeps answers.the-variants.Accepted new old n = absurd (n refl)
 answer-keeps (answers.the-variants.Refused x) new old n = refl
 
+-- of a setting
 pub setting-keeps : (bytes : List ℕ) (x : Changed) → (settingNumber bytes x ≡ 0 → ⊥) → settingBytes bytes x ≡ bytes
 unfolding settingNumber settingBytes
 setting-keeps bytes x n = answer-keeps (whenSized (recordSized bytes) (x .answer)) (recordBytes (x .state)) bytes n
 
+-- of a call on a chip
 pub chip-keeps : (bytes : List ℕ) (answer : Answer) (c : Chip) → (chipNumber bytes answer ≡ 0 → ⊥) → chipAfter bytes answer c ≡ bytes
 unfolding chipNumber chipAfter
 chip-keeps bytes answer c n = answer-keeps (whenSized (chipSized bytes) answer) (chipBytes c) bytes n
@@ -117,6 +126,7 @@ needed-keeps (Listed n t) needed z = refl
 needed-keeps (Short size) needed z = absurd (z refl)
 needed-keeps (Refused x) needed z = refl
 
+-- the record stays
 pub bytes-keep : (bytes : List ℕ) (x : Updated) → (listNumber (listAnswer bytes x) ≡ 0 → ⊥) → listBytes bytes x ≡ bytes
 unfolding listBytes
 bytes-keep bytes x z = rw (list-keeps (listAnswer bytes x) z .unlisted) refl
@@ -127,6 +137,7 @@ module _ (bytes buffer : List ℕ) where
   lent-keeps false answer new z = refl
   lent-keeps true answer new z = rw (list-keeps answer z .unlisted) refl
 
+  -- the buffer stays
   pub update-buffer-keeps : (listNumber (listAnswer bytes (updateOf (recordIn bytes) (length buffer))) ≡ 0 → ⊥) →
       bufferAfter bytes (updateBuffer (recordIn bytes) buffer) buffer ≡ buffer
   unfolding listAnswer bufferAfter updateOf updateBuffer
@@ -150,6 +161,7 @@ module _ (bytes buffer : List ℕ) where
 -- ---- Faults
 
 module _ (m : ℕ) (bytes result : List ℕ) where
+  -- a refused call of lp586x_faults leaves the result and both answers
   pub record FaultsKept : Type 0 where
     pub result-stays : faultsResult m bytes result ≡ result
     pub opens-stay : (old : ℕ) → getD (answerNumbers (faultsAnswer m bytes result)) 1 old ≡ old

@@ -36,6 +36,7 @@ sound-back : (r : Record) → Sound r → recordIn (recordBytes r) ≡ r
 sound-back r s = record-back r (s .settings .size) (s .image .size)
 
 module _ (bytes : List ℕ) (sized : length bytes ≡ 1819) where
+  -- the record that the bytes hold
   abbrev r : Record
   r = recordIn bytes
 

@@ -268,6 +268,6 @@ pub extern "C" fn lp586x_chip_feed(bytes: &mut [u8], list: &[u8]) -> u32
     let c = records::load_chip(bytes);
     let fed = chip::feed(c, list);
     let answer = fed.answer;
-    let chip = fed.chip;
-    answers::settle_chip(bytes, answer, chip)
+    let after = fed.chip;
+    answers::settle_chip(bytes, answer, after)
 }
