@@ -1,1 +1,1 @@
-mod Playing
+mod Carrying

@@ -3,16 +3,14 @@
 //
 // The script has any length. It is read in blocks; the line that is not over yet is carried from block to block in a buffer of
 // its own, and what is to be written waits in a third until the block is played or the buffer is nearly full.
-mod print;
-mod run;
-
+ghost use mathlib.Core.Path.{_≡_};
+ghost use mathlib.Core.List.{_++_};
 ghost use Prim.Native.Nat.{_≤_};
-ghost use lib.ListN.{length};
-use run::Reply;
-use run::Session;
+ghost use lib.ListN.{length, take};
+use session::Session;
 
-// A longer line, its LF not counted, is no call.
-const LONGEST: usize = 8192;
+// One byte more than the longest line that is a call has. A longer line is cut to this, which is no call either.
+const LINE: usize = script::LONGEST + 1;
 
 const TEXT: usize = 65536;
 
@@ -22,14 +20,16 @@ const FULL: usize = 49152;
 // What is kept from line to line.
 struct Player {
     session: Session,
-    // of the line so far; LONGEST + 1 where it is longer than its buffer
+    // of the line so far
     length: usize,
     // how much text waits to be written
     at: usize,
 }
 
-fn new_player() -> Player {
-    let session = run::start();
+fn new_player() -> Player
+    ensures { λ r. ⌜ r .length ≡ 0 ⌝ }
+{
+    let session = session::start();
     Player {
         session: session,
         length: 0,
@@ -48,54 +48,38 @@ fn flushed(text: &[u8], at: usize, full: usize) -> usize {
     0
 }
 
-// A line that is a call or not: what it prints goes to the text.
+// A line that is over: what it prints goes to the text, and the next line is empty so far.
 fn play(mut player: Player, line: &[u8], text: &mut [u8]) -> Player
-    requires { ⌜ length (now line) ≤ 8192 ⌝ }
+    ensures { λ r. ⌜ r .length ≡ 0 ⌝ }
 {
-    let mut buffer = [0xA5u8; run::ROOM];
     let session = player.session;
-    let ran = run::run(session, line, &mut buffer);
-    let session = ran.session;
-    let reply = ran.reply;
-    let room = ran.room;
+    let played = session::play(session, line, text, player.at);
+    let session = played.session;
     player.session = session;
-    let next = print::put_line(text, player.at, reply, &buffer[..room]);
-    player.at = flushed(text, next, FULL);
-    player
-}
-
-// A line that is longer than its buffer.
-fn play_long(mut player: Player, text: &mut [u8]) -> Player {
-    let next = print::put_line(text, player.at, Reply::Bad, b"");
-    player.at = flushed(text, next, FULL);
+    player.length = 0;
+    player.at = flushed(text, played.at, FULL);
     player
 }
 
 // The line, where it is over.
-fn line_ended(mut player: Player, over: bool, line: &[u8], text: &mut [u8]) -> Player
-    requires { ⌜ length (now line) ≤ 8192 ⌝ }
+fn line_ended(player: Player, over: bool, line: &[u8], text: &mut [u8]) -> Player
+    requires { ⌜ player .length ≤ length (now line) ⌝ }
+    ensures { λ r. ⌜ r .length ≤ length (now (line .entry)) ⌝ }
 {
     if !over {
         return player;
     }
     let length = player.length;
-    player.length = 0;
-    if length <= line.len() {
-        play(player, &line[..length], text)
-    } else {
-        play_long(player, text)
-    }
+    play(player, &line[..length], text)
 }
 
-// The length of a line that gets these bytes more.
-fn lengthened(line: &mut [u8], length: usize, bytes: &[u8]) -> usize {
-    if line.len() < length {
-        return length;
-    }
-    if line.len() - length < bytes.len() {
-        return LONGEST + 1;
-    }
-    text::put_text(line, length, bytes)
+// The line so far with these bytes behind it, as many as its buffer has room for. It answers the length.
+fn lengthened(line: &mut [u8], at: usize, bytes: &[u8]) -> usize
+    requires { ⌜ at ≤ length (now line) ⌝ }
+    ensures { λ r. ⌜ take r (now (line .exit)) ≡ take (length (now (line .entry))) (take at (now (line .entry)) ++ now (bytes .entry)) ⌝ }
+    ensures { λ r. ⌜ r ≤ length (now (line .exit)) ⌝ }
+{
+    text::put_text(line, at, bytes)
 }
 
 // Where the line that starts here ends: at its LF, or with the block.
@@ -107,7 +91,8 @@ fn line_end(block: &[u8], from: usize) -> usize
 }
 
 fn play_block(mut player: Player, block: &[u8], line: &mut [u8], text: &mut [u8]) -> Player
-    requires { ⌜ (length (now block) ≤ 65536) × (length (now line) ≤ 8192) ⌝ }
+    requires { ⌜ (length (now block) ≤ 65536) × (player .length ≤ length (now line)) ⌝ }
+    ensures { λ r. ⌜ r .length ≤ length (now (line .exit)) ⌝ }
 {
     let mut from = 0;
     while from < block.len() {
@@ -126,7 +111,8 @@ struct Turn {
 }
 
 fn play_some(turn: Turn, line: &mut [u8], text: &mut [u8]) -> Turn
-    requires { ⌜ length (now line) ≤ 8192 ⌝ }
+    requires { ⌜ turn .player .length ≤ length (now line) ⌝ }
+    ensures { λ r. ⌜ r .player .length ≤ length (now (line .exit)) ⌝ }
 {
     let mut block = io::large_buffer();
     let got = libc::read(libc::STDIN_FILENO, &mut block);
@@ -143,7 +129,7 @@ fn play_some(turn: Turn, line: &mut [u8], text: &mut [u8]) -> Turn
 // A proved loop has to end, and nothing says that the input does. So the loop counts its turns down, from a number that no run
 // uses up.
 fn play_all(line: &mut [u8], text: &mut [u8]) -> Player
-    requires { ⌜ length (now line) ≤ 8192 ⌝ }
+    ensures { λ r. ⌜ r .length ≤ length (now (line .exit)) ⌝ }
 {
     let player = new_player();
     let mut turn = Turn {
@@ -160,7 +146,7 @@ fn play_all(line: &mut [u8], text: &mut [u8]) -> Player
 }
 
 fn main() {
-    let mut line = [0u8; LONGEST];
+    let mut line = [0u8; LINE];
     let mut text = [0u8; TEXT];
     let player = play_all(&mut line, &mut text);
     // the last line may lack its LF

@@ -8,9 +8,11 @@ use lib.ListN.{length}
 use Rattle.script.specs.Words.{sameText}
 use Rattle.script.specs.Numbers.{digitOf, allDigits}
 
+-- "pairs of hex digits with no spaces": one pair or more
 unfoldable pub isPairs : List ℕ → Bool
 isPairs w = ltb 0 (length w) && (eqb (length w % 2) 0 && allDigits 16 w)
 
+-- "and `-` is the empty byte string"
 unfoldable pub isBytes : List ℕ → Bool
 isBytes w = sameText w (0x2D ∷ []) || isPairs w
 

@@ -4,7 +4,8 @@
 use mathlib.Core.Bool.{cond}
 use mathlib.Core.List.{List}
 use Prim.Native.Nat.{ℕ}
-use lib.Dec.{eqb}
+use lib.Dec.{leb, eqb}
+use lib.ListN.{length}
 use Rattle.history.specs.declared.Request.the-variants as requests
 use Rattle.script.specs.Words.{wordAt, wordCount}
 use Rattle.script.specs.Numbers.{numberOf, atMost, byteAtMost}
@@ -25,6 +26,7 @@ use Rattle.script.specs.declared.command.Command.the-variants.{Bad, Open
 unfoldable pub decimalAt : List ℕ → ℕ → numbers.Number
 decimalAt l n = numberOf 10 (wordAt l n)
 
+-- "A and V hex"
 unfoldable pub hexAt : List ℕ → ℕ → numbers.Number
 hexAt l n = numberOf 16 (wordAt l n)
 
@@ -32,12 +34,14 @@ hexAt l n = numberOf 16 (wordAt l n)
 unfoldable pub roomAt : List ℕ → ℕ → numbers.Number
 roomAt l n = atMost (decimalAt l n) 4096
 
+-- the three numbers of "`open M B P`", "`lamp L S V`", "`group L S G`", "`switch L S X`", where each of them is a number
 unfoldable pub threeOf : numbers.Number → numbers.Number → numbers.Number → three.Three
 threeOf (numbers.the-variants.Value a) (numbers.the-variants.Value b) (numbers.the-variants.Value c) = three.the-variants.Values a b c
 threeOf (numbers.the-variants.Value a) (numbers.the-variants.Value b) numbers.the-variants.Bad = three.the-variants.Bad
 threeOf (numbers.the-variants.Value a) numbers.the-variants.Bad n = three.the-variants.Bad
 threeOf numbers.the-variants.Bad m n = three.the-variants.Bad
 
+-- the three words behind the first, as those numbers
 unfoldable pub threeAt : List ℕ → three.Three
 threeAt l = threeOf (decimalAt l 1) (decimalAt l 2) (decimalAt l 3)
 
@@ -72,22 +76,15 @@ unfoldable pub listOf : lists.ListCall → numbers.Number → Command
 listOf c (numbers.the-variants.Value n) = ListC c n
 listOf c numbers.the-variants.Bad = Bad
 
--- `scene BYTES`
-unfoldable pub sceneOf : List ℕ → Command
-sceneOf w = cond (isBytes w) Scene Bad
+-- the BYTES of "`scene BYTES`", "`feed BYTES`" and "`faults M BYTES L`": a word that is no byte string makes no call
+unfoldable pub withByteString : List ℕ → Command → Command
+withByteString w c = cond (isBytes w) c Bad
 
--- `feed BYTES`
-unfoldable pub feedOf : List ℕ → Command
-feedOf w = cond (isBytes w) Feed Bad
-
--- `faults M BYTES L`
-unfoldable pub faultsIf : numbers.Number → numbers.Number → Command
-faultsIf (numbers.the-variants.Value m) (numbers.the-variants.Value n) = Faults m n
-faultsIf (numbers.the-variants.Value m) numbers.the-variants.Bad = Bad
-faultsIf numbers.the-variants.Bad n = Bad
-
-unfoldable pub faultsOf : numbers.Number → List ℕ → numbers.Number → Command
-faultsOf m w n = cond (isBytes w) (faultsIf m n) Bad
+-- the numbers of "`faults M BYTES L`"
+unfoldable pub faultsOf : numbers.Number → numbers.Number → Command
+faultsOf (numbers.the-variants.Value m) (numbers.the-variants.Value n) = Faults m n
+faultsOf (numbers.the-variants.Value m) numbers.the-variants.Bad = Bad
+faultsOf numbers.the-variants.Bad n = Bad
 
 -- `poke W A V`
 unfoldable pub pokeOf : part.PartNamed → numbers.Number → bytes.Byte → Command
@@ -113,14 +110,14 @@ byKeyword keywords.the-variants.Register l = registerOf (hexAt l 1) (byteAtMost 
 byKeyword keywords.the-variants.Lamp l = lampOf (threeAt l)
 byKeyword keywords.the-variants.Group l = groupOf (threeAt l)
 byKeyword keywords.the-variants.Switch l = switchOf (threeAt l)
-byKeyword keywords.the-variants.Scene l = sceneOf (wordAt l 1)
+byKeyword keywords.the-variants.Scene l = withByteString (wordAt l 1) Scene
 byKeyword keywords.the-variants.Update l = listOf lists.the-variants.Update (roomAt l 1)
 byKeyword keywords.the-variants.Reset l = listOf lists.the-variants.Reset (roomAt l 1)
 byKeyword keywords.the-variants.Power l = Power
 byKeyword keywords.the-variants.ClearOpens l = listOf lists.the-variants.ClearOpens (roomAt l 1)
 byKeyword keywords.the-variants.ClearShorts l = listOf lists.the-variants.ClearShorts (roomAt l 1)
-byKeyword keywords.the-variants.Feed l = feedOf (wordAt l 1)
-byKeyword keywords.the-variants.Faults l = faultsOf (decimalAt l 1) (wordAt l 2) (roomAt l 3)
+byKeyword keywords.the-variants.Feed l = withByteString (wordAt l 1) Feed
+byKeyword keywords.the-variants.Faults l = withByteString (wordAt l 2) (faultsOf (decimalAt l 1) (roomAt l 3))
 byKeyword keywords.the-variants.Settings l = Show parts.the-variants.Settings
 byKeyword keywords.the-variants.Image l = Show parts.the-variants.Image
 byKeyword keywords.the-variants.Chip l = Show parts.the-variants.Chip
@@ -129,6 +126,10 @@ byKeyword keywords.the-variants.Header l = headerOf (entryOf (wordAt l 1)) (byte
 byKeyword keywords.the-variants.Check l = Check
 byKeyword keywords.the-variants.Unknown l = Bad
 
--- "A line that is no call .. prints `?`"
+-- "A line that is no call .. prints `?`": one with more or fewer words than its first asks is none
+unfoldable pub countedOf : List ℕ → Command
+countedOf l = cond (eqb (wordCount l) (wordsAsked (keywordOf (wordAt l 0)))) (byKeyword (keywordOf (wordAt l 0)) l) Bad
+
+-- "or more than 8,192 bytes (its LF not counted) prints `?`"
 unfoldable pub commandOf : List ℕ → Command
-commandOf l = cond (eqb (wordCount l) (wordsAsked (keywordOf (wordAt l 0)))) (byKeyword (keywordOf (wordAt l 0)) l) Bad
+commandOf l = cond (leb (length l) 8192) (countedOf l) Bad

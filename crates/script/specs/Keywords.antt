@@ -99,7 +99,7 @@ busText = 0x62 ∷ 0x75 ∷ 0x73 ∷ []
 abbrev pub pinsText : List ℕ
 pinsText = 0x70 ∷ 0x69 ∷ 0x6E ∷ 0x73 ∷ []
 
--- the first word of a line: the table's first column
+-- the table's first column from `faults` on
 unfoldable pub fromFaults : List ℕ → Keyword
 fromFaults w =
     cond (sameText w faultsText) Faults
@@ -110,6 +110,7 @@ fromFaults w =
     (cond (sameText w headerText) Header
     (cond (sameText w checkText) Check Unknown))))))
 
+-- the table's first column from `reset` on
 unfoldable pub fromReset : List ℕ → Keyword
 fromReset w =
     cond (sameText w resetText) Reset
@@ -118,6 +119,7 @@ fromReset w =
     (cond (sameText w clearshortsText) ClearShorts
     (cond (sameText w feedText) Feed (fromFaults w)))))
 
+-- the first word of a line: the table's first column, each entry up to its first space; any other is "no call"
 unfoldable pub keywordOf : List ℕ → Keyword
 keywordOf w =
     cond (sameText w openText) Open
@@ -128,7 +130,7 @@ keywordOf w =
     (cond (sameText w sceneText) Scene
     (cond (sameText w updateText) Update (fromReset w)))))))
 
--- how many words such a line has
+-- how many words a line of the table's first column has
 unfoldable pub wordsAsked : Keyword → ℕ
 wordsAsked Open = 4
 wordsAsked Register = 3

@@ -29,6 +29,7 @@ unfoldable pub valueFrom : ℕ → ℕ → List ℕ → ℕ
 valueFrom base v [] = v
 valueFrom base v (b ∷ w) = valueFrom base (base * v + digitOf b) w
 
+-- digits of the base, one or more, "leading zeros are allowed", that say no "number above 4,294,967,295"
 unfoldable pub isNumber : ℕ → List ℕ → Bool
 isNumber base w = ltb 0 (length w) && (allDigits base w && leb (valueFrom base 0 w) 4294967295)
 

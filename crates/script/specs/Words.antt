@@ -24,6 +24,7 @@ unfoldable pub wordAt : List ℕ → ℕ → List ℕ
 wordAt l zero = firstWord l
 wordAt l (suc n) = wordAt (behind l) n
 
+-- 1 for a space
 unfoldable pub spaceOf : ℕ → ℕ
 spaceOf b = cond (eqb b 0x20) 1 0
 

@@ -1,6 +1,6 @@
 // A line as a command. Its words are judged before the call: a line that is no call is bad.
 ghost use mathlib.Core.Path.{_≡_};
-ghost use Rattle.script.specs.Commands.{decimalAt, hexAt, roomAt, threeAt, openOf, registerOf, lampOf, groupOf, switchOf, sceneOf, listOf, feedOf, faultsOf, pokeOf, headerOf, pokeAt, byKeyword, commandOf};
+ghost use Rattle.script.specs.Commands.{decimalAt, hexAt, roomAt, threeAt, openOf, registerOf, lampOf, groupOf, switchOf, listOf, faultsOf, withByteString, pokeOf, headerOf, pokeAt, byKeyword, commandOf};
 use crate::bytes::is_bytes;
 use crate::keywords;
 use crate::keywords::Entry;
@@ -13,6 +13,9 @@ use crate::numbers::Byte;
 use crate::numbers::Number;
 use crate::words;
 use history::Request;
+
+// The longest line that is a call, its LF not counted.
+pub const LONGEST: usize = 8192;
 
 // The calls that write a list.
 pub enum ListCall {
@@ -168,32 +171,20 @@ fn list(call: ListCall, room: Number) -> Command
     }
 }
 
-fn scene(bytes: &[u8]) -> Command
-    ensures { λ r. ⌜ r ≡ sceneOf (now (bytes .entry)) ⌝ }
+// The command of a line that has this word for a byte string.
+fn with_byte_string(word: &[u8], command: Command) -> Command
+    ensures { λ r. ⌜ r ≡ withByteString (now (word .entry)) command ⌝ }
 {
-    if is_bytes(bytes) {
-        Command::Scene
+    if is_bytes(word) {
+        command
     } else {
         Command::Bad
     }
 }
 
-fn feed(bytes: &[u8]) -> Command
-    ensures { λ r. ⌜ r ≡ feedOf (now (bytes .entry)) ⌝ }
+fn faults(member: Number, room: Number) -> Command
+    ensures { λ r. ⌜ r ≡ faultsOf member room ⌝ }
 {
-    if is_bytes(bytes) {
-        Command::Feed
-    } else {
-        Command::Bad
-    }
-}
-
-fn faults(member: Number, bytes: &[u8], room: Number) -> Command
-    ensures { λ r. ⌜ r ≡ faultsOf member (now (bytes .entry)) room ⌝ }
-{
-    if !is_bytes(bytes) {
-        return Command::Bad;
-    }
     let Number::Value(member) = member else {
         return Command::Bad;
     };
@@ -254,14 +245,17 @@ fn by_keyword(keyword: Keyword, line: &[u8]) -> Command
         Keyword::Lamp => lamp(three_numbers(line)),
         Keyword::Group => group(three_numbers(line)),
         Keyword::Switch => switch(three_numbers(line)),
-        Keyword::Scene => scene(words::word(line, 1)),
+        Keyword::Scene => with_byte_string(words::word(line, 1), Command::Scene),
         Keyword::Update => list(ListCall::Update, room(line, 1)),
         Keyword::Reset => list(ListCall::Reset, room(line, 1)),
         Keyword::Power => Command::Power,
         Keyword::ClearOpens => list(ListCall::ClearOpens, room(line, 1)),
         Keyword::ClearShorts => list(ListCall::ClearShorts, room(line, 1)),
-        Keyword::Feed => feed(words::word(line, 1)),
-        Keyword::Faults => faults(decimal(line, 1), words::word(line, 2), room(line, 3)),
+        Keyword::Feed => with_byte_string(words::word(line, 1), Command::Feed),
+        Keyword::Faults => with_byte_string(
+            words::word(line, 2),
+            faults(decimal(line, 1), room(line, 3)),
+        ),
         Keyword::Settings => Command::Show(Part::Settings),
         Keyword::Image => Command::Show(Part::Image),
         Keyword::Chip => Command::Show(Part::Chip),
@@ -279,6 +273,9 @@ fn by_keyword(keyword: Keyword, line: &[u8]) -> Command
 pub fn read(line: &[u8]) -> Command
     ensures { λ r. ⌜ r ≡ commandOf (now (line .entry)) ⌝ }
 {
+    if LONGEST < line.len() {
+        return Command::Bad;
+    }
     let keyword = keywords::first_word(words::word(line, 0));
     if words::count(line) != keywords::words_asked(keyword) {
         return Command::Bad;

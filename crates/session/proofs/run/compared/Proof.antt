@@ -1,0 +1,25 @@
+-- `session::run::compared` meets its contract.
+-- Assumes nothing.
+use Rattle.session.proofs.Playing.{compared-void}
+use borrow.Author.Tests.{not-true, not-false}
+use mathlib.Core.Path.{refl}
+use Rattle.session.proofs.Playing.{compared-valid}
+use Rattle.session.specs.Run.{compared}
+use borrow.Author.Needs.{needs}
+use Rattle.session.proofs.run.compared.Statement.{statement}
+use Rattle.session.proofs.run.compared.Tie as tie
+
+returns : tie.Need-returns
+returns c = compared-void _ (not-true _ (c .if1 .taken))
+
+cast-member : tie.Need-cast-member
+cast-member c = search needs
+
+difference-requires : tie.Need-difference-requires
+difference-requires c κs = search needs
+
+returns-2 : tie.Need-returns-2
+returns-2 c = compared-valid _ _ (not-false _ (c .before .before .before .before .before .before .before .before .if1 .left)) (c .difference .ensures)
+
+pub compared-spec : {M : Type 1} → statement M
+compared-spec = tie.close (tie.spec returns cast-member difference-requires returns-2)

@@ -1,0 +1,32 @@
+-- `session::run::headed_record` meets its contract.
+-- Assumes nothing.
+use mathlib.Core.Path.{refl}
+use Rattle.session.specs.Run.{headedRecord}
+use borrow.Author.Needs.{needs}
+use Rattle.session.proofs.run.headed_record.Statement.{statement}
+use Rattle.session.proofs.run.headed_record.Tie as tie
+
+enum-told : tie.Need-enum-told
+enum-told c = search needs
+
+enum-told-2 : tie.Need-enum-told-2
+enum-told-2 c = search needs
+
+enum-told-3 : tie.Need-enum-told-3
+enum-told-3 c = search needs
+
+returns : tie.Need-returns
+unfolding headedRecord
+returns c = rw (c .enum-told .given .1) refl
+
+returns-2 : tie.Need-returns-2
+unfolding headedRecord
+returns-2 c = rw (c .enum-told2 .given .1) refl
+
+returns-3 : tie.Need-returns-3
+unfolding headedRecord
+returns-3 c = rw (c .enum-told3 .given .1) refl
+
+pub headed-record-spec : {M : Type 1} → statement M
+headed-record-spec =
+    tie.close (tie.spec enum-told enum-told-2 enum-told-3 returns returns-2 returns-3)

@@ -1,0 +1,36 @@
+-- `session::run::poked_chip` meets its contract.
+-- Assumes nothing.
+use mathlib.Core.Path.{refl}
+use Rattle.session.specs.Run.{pokedChip}
+use borrow.Author.Needs.{needs}
+use Rattle.session.proofs.run.poked_chip.Statement.{statement}
+use Rattle.session.proofs.run.poked_chip.Tie as tie
+
+enum-told : tie.Need-enum-told
+enum-told c = search needs
+
+enum-told-2 : tie.Need-enum-told-2
+enum-told-2 c = search needs
+
+enum-told-3 : tie.Need-enum-told-3
+enum-told-3 c = search needs
+
+element-write-chip : tie.Need-element-write-chip
+element-write-chip c = search needs
+
+returns : tie.Need-returns
+unfolding pokedChip
+returns c = rw (c .enum-told .given .1) refl
+
+returns-2 : tie.Need-returns-2
+unfolding pokedChip
+returns-2 c = rw (c .enum-told2 .given .1) refl
+
+returns-3 : tie.Need-returns-3
+unfolding pokedChip
+returns-3 c = rw (c .enum-told3 .given .1) refl
+
+pub poked-chip-spec : {M : Type 1} → statement M
+poked-chip-spec =
+    tie.close
+    (tie.spec enum-told enum-told-2 enum-told-3 element-write-chip returns returns-2 returns-3)

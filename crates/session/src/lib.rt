@@ -1,0 +1,35 @@
+// A session of a script: the record and the chip that it plays on, with the ledger of the accepted settings, and what a line of the
+// script does to them and prints. docs/REPLAY.md has the lines.
+//
+// `start` is the session before the first line. `play` runs a line, on a buffer of its own where the call asks for one, and puts the
+// line of its reply at a place of a text.
+mod print;
+mod run;
+
+ghost use mathlib.Core.Path.{_≡_};
+ghost use Rattle.session.specs.Play.{sessionAfter, printed};
+ghost use Rattle.text.specs.Text.{Puts};
+pub use run::Session;
+pub use run::start;
+
+// The session after a line, and the place of the text behind what the line prints.
+pub struct Played {
+    pub session: Session,
+    pub at: usize,
+}
+
+// A line of any bytes and any length, without its LF.
+pub fn play(session: Session, line: &[u8], text: &mut [u8], at: usize) -> Played
+    ensures { λ r. ⌜ r .session ≡ sessionAfter session (now (line .entry)) ⌝ }
+    ensures { λ r. ⌜ Puts (now (text .entry)) at (printed session (now (line .entry))) (now (text .exit)) (r .at) ⌝ }
+{
+    let mut buffer = [0xA5u8; run::ROOM];
+    let ran = run::run(session, line, &mut buffer);
+    let session = ran.session;
+    let reply = ran.reply;
+    let room = ran.room;
+    Played {
+        session: session,
+        at: print::put_line(text, at, reply, &buffer[..room]),
+    }
+}
