@@ -15,7 +15,8 @@ use Rattle.plan.specs.Plan.{scan, plan}
 use Rattle.plan.specs.Update.{updateFor}
 use Rattle.host.specs.declared.Record.{Record}
 use Rattle.host.specs.Record.{recordOf, soundOf, whenSound, settled, opened, openState, openOf, registerAnswer, registerOf, wideOf, topLevel, whenDot, lampAnswer, putLevel, lampOf}
-use Rattle.update.specs.Update.{writesOf, updateAnswer, updateBuffer}
+use Rattle.host.specs.SoundLaws.{is-sound, open-sound}
+use Rattle.update.specs.Update.{over, writesOf, updateAnswer, updateBuffer, commandWrite, commandAnswer, commandBuffer, resetBuffer, clearOpensBuffer, clearShortsBuffer}
 use Rattle.history.specs.declared.Request.the-variants.{Register, Lamp, Update}
 use Rattle.history.specs.Step.{lentAfter}
 use Rattle.history.specs.History.{Call, worldAfter}
@@ -50,6 +51,25 @@ differing a = recordOf 0 0 0 (set (set (set (resetImage 0) 0x000 0x01) 0x202 0x1
 abbrev lit : ℕ → ℕ → ℕ → ℕ → List ℕ
 lit v l s level = putLevel (set (resetImage 0) 0x001 v) (dotNumber l s) level
 
+-- a new LP5860 with pins 0 on a bus
+abbrev fresh : ℕ → Record
+fresh bus = openOf 0 bus 0 .state
+
+-- the buffer after a command, with v to a, of a new record
+abbrev ordered : ℕ → ℕ → ℕ → List ℕ
+ordered bus a v = over (encode (fresh bus .bus) (fresh bus .pins) (commandWrite a v)) (replicate 9 0)
+
+-- the command strings of a record with pins 0, on I2C and on SPI
+pub record FixedBytes : Type 0 where
+  -- "One write of FFh to 0A9h; its 9 list bytes"
+  pub reset-i2c : resetBuffer (fresh 0) (replicate 9 0) ≡ 0x01 ∷ 0x00 ∷ 0x03 ∷ 0x00 ∷ 0x03 ∷ 0x00 ∷ 0x80 ∷ 0xA9 ∷ 0xFF ∷ []
+  pub reset-spi : resetBuffer (fresh 1) (replicate 9 0) ≡ 0x01 ∷ 0x00 ∷ 0x03 ∷ 0x00 ∷ 0x03 ∷ 0x00 ∷ 0x2A ∷ 0x60 ∷ 0xFF ∷ []
+  -- "The fixed bytes: one write of 0Fh to 0A7h, or to 0A8h."
+  pub clear-opens-i2c : clearOpensBuffer (fresh 0) (replicate 9 0) ≡ 0x01 ∷ 0x00 ∷ 0x03 ∷ 0x00 ∷ 0x03 ∷ 0x00 ∷ 0x80 ∷ 0xA7 ∷ 0x0F ∷ []
+  pub clear-opens-spi : clearOpensBuffer (fresh 1) (replicate 9 0) ≡ 0x01 ∷ 0x00 ∷ 0x03 ∷ 0x00 ∷ 0x03 ∷ 0x00 ∷ 0x29 ∷ 0xE0 ∷ 0x0F ∷ []
+  pub clear-shorts-i2c : clearShortsBuffer (fresh 0) (replicate 9 0) ≡ 0x01 ∷ 0x00 ∷ 0x03 ∷ 0x00 ∷ 0x03 ∷ 0x00 ∷ 0x80 ∷ 0xA8 ∷ 0x0F ∷ []
+  pub clear-shorts-spi : clearShortsBuffer (fresh 1) (replicate 9 0) ≡ 0x01 ∷ 0x00 ∷ 0x03 ∷ 0x00 ∷ 0x03 ∷ 0x00 ∷ 0x2A ∷ 0x20 ∷ 0x0F ∷ []
+
 pub record Starred : Type 0 where
   -- "5Eh at 001h: 11 lines, mode 3."
   pub lines-of-5E : lineNumber 0x5E ≡ 11
@@ -72,18 +92,36 @@ pub record Starred : Type 0 where
   pub current-at-12C : placeOf Current 3 2 8 ≡ At 0x12C 0
   -- "Sink 2: refusal 6."
   pub sink-2-refused : answerNumber (lampOf (openOf 3 0 0 .state) 2 2 0 .answer) ≡ 6
+  -- the fixed command strings
+  pub fixed-bytes : FixedBytes
 
 -- (the two that go through every call stand apart, since each takes some memory to compute)
 bench-i2c : updated 0 ≡ benchList
-unfolding openAnswer opens linesOf columnsOf hasColumn dotIn isDot numberIn kindOf addressOf shiftOf placeAs placeOf lineNumber dataMode isWide firstMasks firstMask noSink groupMask switchMask groupReserved switchReserved currentReserved pwmReserved reservedAs reservedOf writableOf firstReset switchBytesOf switchReset currentReset resetAs resetOf allFrom tableFrom table okByte okAt imageOk resetImage byteAt size16 nOf lengthsFrom lengths cutFrom transactions headFirst headSecond transactionOf listOf encode scan plan updateFor soundOf whenSound settled opened openState openOf registerAnswer registerOf wideOf topLevel whenDot lampAnswer putLevel lampOf writesOf updateAnswer updateBuffer
+unfolding openAnswer opens linesOf columnsOf hasColumn dotIn isDot numberIn kindOf dataMode isWide firstMasks firstMask noSink groupMask switchMask groupReserved switchReserved currentReserved pwmReserved reservedAs reservedOf writableOf firstReset switchBytesOf switchReset currentReset resetAs resetOf allFrom tableFrom table okByte okAt imageOk resetImage headFirst headSecond transactionOf listOf encode scan plan updateFor soundOf whenSound settled opened openState openOf registerAnswer registerOf wideOf topLevel whenDot lampAnswer putLevel lampOf writesOf updateAnswer updateBuffer
 bench-i2c = refl
 
 bench-spi : transactions (updated 1) ≡ benchTransactions
-unfolding openAnswer opens linesOf columnsOf hasColumn dotIn isDot numberIn kindOf addressOf shiftOf placeAs placeOf lineNumber dataMode isWide firstMasks firstMask noSink groupMask switchMask groupReserved switchReserved currentReserved pwmReserved reservedAs reservedOf writableOf firstReset switchBytesOf switchReset currentReset resetAs resetOf allFrom tableFrom table okByte okAt imageOk resetImage byteAt size16 nOf lengthsFrom lengths cutFrom transactions headFirst headSecond transactionOf listOf encode scan plan updateFor soundOf whenSound settled opened openState openOf registerAnswer registerOf wideOf topLevel whenDot lampAnswer putLevel lampOf writesOf updateAnswer updateBuffer
+unfolding openAnswer opens linesOf columnsOf hasColumn dotIn isDot numberIn kindOf dataMode isWide firstMasks firstMask noSink groupMask switchMask groupReserved switchReserved currentReserved pwmReserved reservedAs reservedOf writableOf firstReset switchBytesOf switchReset currentReset resetAs resetOf allFrom tableFrom table okByte okAt imageOk resetImage byteAt size16 nOf lengthsFrom lengths cutFrom transactions headFirst headSecond transactionOf listOf encode scan plan updateFor soundOf whenSound settled opened openState openOf registerAnswer registerOf wideOf topLevel whenDot lampAnswer putLevel lampOf writesOf updateAnswer updateBuffer
 bench-spi = refl
 
+-- a new record is sound, so that its command is listed
+command-bytes : (bus a v : ℕ) → commandBuffer (fresh bus) a v (replicate 9 0) ≡ ordered bus a v
+unfolding commandBuffer commandAnswer
+command-bytes bus a v = rw (is-sound (fresh bus) (open-sound 0 bus 0)) refl
+
+fixed : FixedBytes
+unfolding openAnswer opens opened openState openOf headFirst headSecond transactionOf listOf encode
+fixed = record {
+  reset-i2c = command-bytes 0 0x0A9 0xFF;
+  reset-spi = command-bytes 1 0x0A9 0xFF;
+  clear-opens-i2c = command-bytes 0 0x0A7 0x0F;
+  clear-opens-spi = command-bytes 1 0x0A7 0x0F;
+  clear-shorts-i2c = command-bytes 0 0x0A8 0x0F;
+  clear-shorts-spi = command-bytes 1 0x0A8 0x0F;
+}
+
 pub starred : Starred
-unfolding openAnswer opens linesOf columnsOf hasColumn dotIn isDot numberIn kindOf addressOf shiftOf placeAs placeOf lineNumber dataMode isWide firstMasks firstMask noSink groupMask switchMask groupReserved switchReserved currentReserved pwmReserved reservedAs reservedOf writableOf firstReset switchBytesOf switchReset currentReset resetAs resetOf allFrom tableFrom table okByte okAt imageOk resetImage byteAt size16 nOf lengthsFrom lengths cutFrom transactions headFirst headSecond transactionOf listOf encode scan plan updateFor soundOf whenSound settled opened openState openOf registerAnswer registerOf wideOf topLevel whenDot lampAnswer putLevel lampOf writesOf updateAnswer updateBuffer
+unfolding openAnswer opens linesOf columnsOf hasColumn dotIn isDot numberIn kindOf addressOf shiftOf placeAs placeOf lineNumber dataMode isWide firstMasks firstMask noSink groupMask switchMask groupReserved switchReserved currentReserved pwmReserved reservedAs reservedOf writableOf firstReset switchBytesOf switchReset currentReset resetAs resetOf allFrom tableFrom table okByte okAt imageOk resetImage scan plan updateFor soundOf whenSound settled opened openState openOf wideOf topLevel whenDot lampAnswer putLevel lampOf writesOf
 starred = record {
   lines-of-5E = refl;
   mode-of-5E = refl;
@@ -96,4 +134,5 @@ starred = record {
   byte-at-292 = refl;
   current-at-12C = refl;
   sink-2-refused = refl;
+  fixed-bytes = fixed;
 }
