@@ -22,7 +22,7 @@ use Rattle.host.specs.Numbered.{Numbered}
 use Rattle.map.specs.declared.refusals.Answer.{Answer}
 use Rattle.map.specs.declared.refusals.Answer.the-variants.{Accepted, Refused}
 use Rattle.map.specs.declared.refusals.Refusal.{Refusal}
-use Rattle.map.specs.declared.refusals.Refusal.the-variants.{NotWritable, ReservedBit, NoDot, Level, GroupOrState}
+use Rattle.map.specs.declared.refusals.Refusal.the-variants.{NotWritable, ReservedBit, Level, GroupOrState}
 use Rattle.map.specs.Refusals.{accepted, openAnswer, opens}
 use Rattle.map.specs.Map.{linesOf, columnsOf, numberIn, dataMode, isWide, kindOf, reservedAs, reservedOf, writableOf, resetAs, resetOf, isDot, addressOf, shiftOf, widthOf, placeAs, placeOf}
 use Rattle.map.specs.MapLaws.{lines-most, dot-line, dot-sink}
@@ -36,7 +36,7 @@ use Rattle.host.specs.declared.Changed.{Changed}
 use Rattle.host.specs.SoundLaws.{number-small}
 use Rattle.host.specs.RecordLaws.{when-dot-refused, when-dot-accepted, register-taken, lamp-taken, field-taken, scene-taken}
 use Rattle.map.specs.ImageLaws.{ok-masked}
-use Rattle.host.specs.Record.{whenSound, whenDot, recordOf, soundOf, wideOf, topLevel, opened, openState, openOf, soundAnswer, registerAnswer, lampAnswer, fieldAnswer, sceneAnswer, powerLostOf, putBits, putField, putLevel, wordAt, sceneCount, sceneDot, sceneLevel, sceneHasDot, sceneFits, sceneSized, putScene}
+use Rattle.host.specs.Record.{whenDot, recordOf, soundOf, wideOf, topLevel, opened, openState, openOf, soundAnswer, registerAnswer, lampAnswer, fieldAnswer, sceneAnswer, powerLostOf, putBits, putField, putLevel, wordAt, sceneCount, sceneDot, sceneLevel, sceneHasDot, sceneFits, sceneSized, putScene}
 
 -- ---- soundness
 
@@ -320,22 +320,13 @@ unfolding sceneSized
 scene-sized bytes n h e q = rw (le-leb 2 (length bytes) h, sym e) (eq-eqb (length bytes) (2 + 3 * n) q)
 
 -- a test over n entries, where n is the scene's count
-counted : (f : ℕ → Bool) (bytes : List ℕ) (n : ℕ) (r : Bool) → n ≡ sceneCount bytes → r ≡ allFrom f 0 n → allFrom f 0 (sceneCount bytes) ≡ r
+pub counted : (f : ℕ → Bool) (bytes : List ℕ) (n : ℕ) (r : Bool) → n ≡ sceneCount bytes → r ≡ allFrom f 0 n → allFrom f 0 (sceneCount bytes) ≡ r
 counted f bytes n r e q = ap (allFrom f 0) (sym e) ∙ sym q
 
-levels-counted : (settings bytes : List ℕ) (top n : ℕ) (r : Bool) → n ≡ sceneCount bytes → top ≡ topLevel settings →
+pub levels-counted : (settings bytes : List ℕ) (top n : ℕ) (r : Bool) → n ≡ sceneCount bytes → top ≡ topLevel settings →
     r ≡ allFrom (sceneFits top bytes) 0 n → allFrom (sceneFits (topLevel settings) bytes) 0 (sceneCount bytes) ≡ r
 levels-counted settings bytes top n r e t q =
     ap (λ (x : ℕ). allFrom (sceneFits x bytes) 0 (sceneCount bytes)) (sym t) ∙ counted (sceneFits top bytes) bytes n r e q
-
--- a sound record and a scene of the right length: what its dots and levels decide
-pub scene-decided : (r : Record) (bytes : List ℕ) (top n : ℕ) (dots levels : Bool) (answer : Answer) → soundOf r ≡ true → sceneSized bytes ≡ true →
-    n ≡ sceneCount bytes → top ≡ topLevel (r .settings) → dots ≡ allFrom (sceneHasDot (r .member) bytes) 0 n → levels ≡ allFrom (sceneFits top bytes) 0 n →
-    answer ≡ cond dots (cond levels Accepted (Refused Level)) (Refused NoDot) → answer ≡ sceneAnswer r bytes
-unfolding sceneAnswer whenSound
-scene-decided r bytes top n dots levels answer s z e t d l q =
-    q
-    ∙ sym (rw (s, z, counted (sceneHasDot (r .member) bytes) bytes n dots e d, levels-counted (r .settings) bytes top n levels e t l) refl)
 
 pub sized-facts : (bytes : List ℕ) → sceneSized bytes ≡ true → (2 ≤ length bytes) × (length bytes ≡ 2 + 3 * sceneCount bytes)
 unfolding sceneSized

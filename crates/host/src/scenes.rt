@@ -3,7 +3,6 @@ ghost use mathlib.Core.Path.{_≡_};
 ghost use mathlib.Core.Bool.{true, cond};
 ghost use Prim.Native.Nat.{_+_, _*_, _<_, _≤_};
 ghost use lib.ListN.{length};
-ghost use Rattle.map.specs.declared.refusals.Answer.the-variants.{Accepted, Refused};
 ghost use Rattle.map.specs.Refusals.{accepted};
 ghost use Rattle.map.specs.Lists.{allFrom};
 ghost use Rattle.host.specs.Record.{recordOf, wordAt, sceneCount, sceneSized, sceneHasDot, sceneFits, sceneAnswer, putScene};
@@ -52,19 +51,6 @@ fn levels_fit(top: usize, bytes: &[u8], n: usize) -> bool
     true
 }
 
-// The refusal of the first of two tests that fails.
-fn first_failed(first: bool, earlier: Refusal, second: bool, later: Refusal) -> Answer
-    ensures { λ r. ⌜ r ≡ cond first (cond second Accepted (Refused later)) (Refused earlier) ⌝ }
-{
-    if !first {
-        return Answer::Refused(earlier);
-    }
-    if !second {
-        return Answer::Refused(later);
-    }
-    Answer::Accepted
-}
-
 pub(crate) fn answer<'a>(
     member: u8,
     bus: u8,
@@ -86,9 +72,13 @@ pub(crate) fn answer<'a>(
     if bytes.len() != 2 + 3 * n {
         return Answer::Refused(Refusal::SceneLength);
     }
-    let dots = has_dots(member as usize, bytes, n);
-    let levels = levels_fit(answers::top_level(settings), bytes, n);
-    first_failed(dots, Refusal::NoDot, levels, Refusal::Level)
+    if !has_dots(member as usize, bytes, n) {
+        return Answer::Refused(Refusal::NoDot);
+    }
+    if !levels_fit(answers::top_level(settings), bytes, n) {
+        return Answer::Refused(Refusal::Level);
+    }
+    Answer::Accepted
 }
 
 // The entries in order, each as a lamp of its own.

@@ -3,7 +3,7 @@
 use mathlib.Core.Path.{sym, _∙_}
 use borrow.Author.Tests.{not-true, not-false}
 use Rattle.host.specs.Record.{sceneAnswer, whenSound}
-use Rattle.host.proofs.Steps.{scene-short, scene-missized, scene-sized, scene-decided}
+use Rattle.host.proofs.Steps.{scene-short, scene-missized, scene-sized, counted, levels-counted}
 use borrow.Author.Needs.{needs}
 use Rattle.host.proofs.scenes.answer.Statement.{statement}
 use Rattle.host.proofs.scenes.answer.Tie as tie
@@ -35,17 +35,23 @@ returns-3 c = simp (sym (c .before .before .before .before .sound .ensures) ∙ 
 has-dots-requires : tie.Need-has-dots-requires
 has-dots-requires c κs = search needs
 
+returns-4 : tie.Need-returns-4
+unfolding sceneAnswer whenSound
+returns-4 c = simp (sym (c .before .before .before .before .before .before .sound .ensures) ∙ not-false _ (c .before .before .before .before .before .if1 .left), scene-sized _ _ (c .before .before .before .before .if2 .left) (c .before .before .before .word-at .ensures .0) (c .before .before .if3 .left), counted _ _ _ _ (c .before .before .before .word-at .ensures .0) (c .before .has-dots .ensures) ∙ not-true _ (c .if4 .taken))
+
 top-level-requires : tie.Need-top-level-requires
 top-level-requires c κs = search needs
 
 levels-fit-requires : tie.Need-levels-fit-requires
-levels-fit-requires c κs = (c .before .before .before .word-at .ensures .0, c .before .before .if3 .left)
+levels-fit-requires c κs = (c .before .before .before .before .word-at .ensures .0, c .before .before .before .if3 .left)
 
-first-failed-requires : tie.Need-first-failed-requires
-first-failed-requires c κs = search needs
+returns-5 : tie.Need-returns-5
+unfolding sceneAnswer whenSound
+returns-5 c = simp (sym (c .before .before .before .before .before .before .before .before .before .sound .ensures) ∙ not-false _ (c .before .before .before .before .before .before .before .before .if1 .left), scene-sized _ _ (c .before .before .before .before .before .before .before .if2 .left) (c .before .before .before .before .before .before .word-at .ensures .0) (c .before .before .before .before .before .if3 .left), counted _ _ _ _ (c .before .before .before .before .before .before .word-at .ensures .0) (c .before .before .before .before .has-dots .ensures) ∙ not-false _ (c .before .before .before .if4 .left), levels-counted _ _ _ _ _ (c .before .before .before .before .before .before .word-at .ensures .0) (c .before .before .top-level .ensures) (c .before .levels-fit .ensures) ∙ not-true _ (c .if5 .taken))
 
-returns-4 : tie.Need-returns-4
-returns-4 c = scene-decided _ _ _ _ _ _ _ (sym (c .before .before .before .before .before .before .before .before .sound .ensures) ∙ not-false _ (c .before .before .before .before .before .before .before .if1 .left)) (scene-sized _ _ (c .before .before .before .before .before .before .if2 .left) (c .before .before .before .before .before .word-at .ensures .0) (c .before .before .before .before .if3 .left)) (c .before .before .before .before .before .word-at .ensures .0) (c .before .before .top-level .ensures) (c .before .before .before .has-dots .ensures) (c .before .levels-fit .ensures) (c .first-failed .ensures)
+returns-6 : tie.Need-returns-6
+unfolding sceneAnswer whenSound
+returns-6 c = simp (sym (c .before .before .before .before .before .before .before .before .before .sound .ensures) ∙ not-false _ (c .before .before .before .before .before .before .before .before .if1 .left), scene-sized _ _ (c .before .before .before .before .before .before .before .if2 .left) (c .before .before .before .before .before .before .word-at .ensures .0) (c .before .before .before .before .before .if3 .left), counted _ _ _ _ (c .before .before .before .before .before .before .word-at .ensures .0) (c .before .before .before .before .has-dots .ensures) ∙ not-false _ (c .before .before .before .if4 .left), levels-counted _ _ _ _ _ (c .before .before .before .before .before .before .word-at .ensures .0) (c .before .before .top-level .ensures) (c .before .levels-fit .ensures) ∙ not-false _ (c .if5 .left))
 
 pub answer-spec : {M : Type 1} → statement M
 answer-spec =
@@ -59,7 +65,8 @@ answer-spec =
     add-if3
     returns-3
     has-dots-requires
+    returns-4
     top-level-requires
     levels-fit-requires
-    first-failed-requires
-    returns-4)
+    returns-5
+    returns-6)
