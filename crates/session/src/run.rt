@@ -107,8 +107,9 @@ fn open(session: Session, member: usize, bus: usize, pins: usize) -> Ran
     ensures { λ r. ⌜ r ≡ openBy (openAnswer member bus pins) session member bus pins ⌝ }
 {
     let answer = map::open_answer(member, bus, pins);
+    let fresh = opened(member, bus, pins);
     match answer {
-        Answer::Accepted => number(answer, opened(member, bus, pins)),
+        Answer::Accepted => number(answer, fresh),
         Answer::Refused(_) => number(answer, session),
     }
 }
