@@ -1,15 +1,16 @@
 -- One call on a world, by the promises of the real calls and of Feed: document 01, "The ledger and whole lists". A world is a
 -- record, `state`, and its chip; `lent` is the bytes of a scene, or the buffer of a call that writes a list.
 -- Assumes nothing.
-use mathlib.Core.List.{List}
+use mathlib.Core.List.{List, [], _∷_}
 use Prim.Native.Nat.{ℕ, _+_, _*_, _≤_}
 use lib.ListN.{length, take}
+use Rattle.map.specs.Refusals.{answerNumber}
 use Rattle.host.specs.declared.Changed.{Changed}
 use Rattle.host.specs.Record.{registerOf, lampOf, groupOf, switchOf, sceneOf, powerLostOf}
 use Rattle.update.specs.declared.ListAnswer.{ListAnswer}
 use Rattle.update.specs.declared.ListAnswer.the-variants.{Listed, Short, Refused}
 use Rattle.update.specs.declared.Updated.{Updated}
-use Rattle.update.specs.Update.{updateOf, updateBuffer, chipResetOf, resetBuffer, clearOf, clearOpensBuffer, clearShortsBuffer}
+use Rattle.update.specs.Update.{listNumbers, updateOf, updateBuffer, chipResetOf, resetBuffer, clearOf, clearOpensBuffer, clearShortsBuffer}
 use Rattle.chip.specs.declared.Chip.{Chip}
 use Rattle.chip.specs.Chip.{feedOf}
 use Rattle.history.specs.declared.World.{World}
@@ -17,6 +18,14 @@ use Rattle.history.specs.declared.Request.{Request}
 use Rattle.history.specs.declared.Request.the-variants.{Register, Lamp, Group, Switch, Scene, Reset, PowerLost, Update}
 use Rattle.history.specs.declared.CallAnswer as answers
 use Rattle.history.specs.declared.Stepped.{Stepped}
+
+-- ---- Answers
+
+-- "a definition states this paper's number and values for each case of the enum": a setting and Power lost answer a number alone, a
+-- call that writes a list what the list's answer has
+abbrev pub callNumbers : answers.CallAnswer → List ℕ
+callNumbers (answers.the-variants.Setting answer) = answerNumber answer ∷ []
+callNumbers (answers.the-variants.List answer) = listNumbers answer
 
 -- ---- What the chip gets
 
