@@ -164,6 +164,27 @@ static void rising_addresses(void)
     expect(&world, 0x203, 4);
 }
 
+/* More transactions than one byte counts, each for an address of its own. */
+static void many_transactions(void)
+{
+    enum { COUNT = 300 };
+    struct world world, old;
+
+    context("a list of 300 transactions");
+    start_on(&world, LP5860, 0);
+    old = world;
+    list_start();
+    for (uint32_t i = 0; i < COUNT; i++)
+        ADD((uint8_t)(0x84 + 2 * (i >> 8)), (uint8_t)i, (uint8_t)(1 + i % 251));
+    check(list_size == 4 + COUNT * (2 + 3) && list[0] == 0x2C && list[1] == 0x01, "the list has %zu bytes", list_size);
+    feed(&world);
+    for (uint32_t i = 0; i < COUNT; i++) {
+        expect(&world, 0x200 + i, (uint8_t)(1 + i % 251));
+        world.chip[CHIP_REGISTERS + 0x200 + i] = old.chip[CHIP_REGISTERS + 0x200 + i];
+    }
+    check(memcmp(world.chip, old.chip, sizeof old.chip) == 0, "300 transactions changed another register");
+}
+
 /* "Data beyond 38Bh are dropped and the address never wraps." */
 static void end_of_the_map(void)
 {
@@ -384,6 +405,7 @@ void group_chip(void)
     heads_on_spi();
     lists_for_several_chips();
     rising_addresses();
+    many_transactions();
     end_of_the_map();
     standby();
     kept_values();

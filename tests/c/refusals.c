@@ -227,6 +227,33 @@ static void feeds(const struct world *world)
     expect(11, feed_call(world, no_transactions, sizeof no_transactions));
 }
 
+/* Both bytes of n count: 300 and 256 are not 44 and 0, whose sizes would add up. */
+static void feeds_by_n(const struct world *world)
+{
+    static uint8_t list[4 + 44 * (2 + 3)] = {300 % 256, 300 / 256, 44 * 3, 0};
+    static const uint8_t none[] = {0, 1, 0, 0};
+
+    for (size_t i = 0; i < 44; i++)
+        list[4 + 2 * i] = 3;
+    expect(11, feed_call(world, list, sizeof list));
+    expect(11, feed_call(world, none, sizeof none));
+}
+
+/* Lengths are added in full: 65,535 + 7 is not 6, whether the size is that for 6 bytes or for 65,542. */
+static void feeds_by_sum(const struct world *world)
+{
+    static uint8_t list[4 + 4 + 65535 + 7] = {2, 0, 6, 0, 0xFF, 0xFF, 7, 0};
+    static uint8_t swapped[sizeof list] = {2, 0, 6, 0, 7, 0, 0xFF, 0xFF};
+    static uint8_t longest[4 + 2 + 65535 + 1] = {1, 0, 0xFF, 0xFF, 0xFF, 0xFF, 0x80, 0x00, 0x01};
+
+    expect(11, feed_call(world, list, 4 + 4 + 6));
+    expect(11, feed_call(world, list, sizeof list));
+    expect(11, feed_call(world, swapped, 4 + 4 + 6));
+    expect(11, feed_call(world, swapped, sizeof swapped));
+    expect(0, feed_call(world, longest, sizeof longest - 1));
+    expect(11, feed_call(world, longest, sizeof longest));
+}
+
 void group_refusals(void)
 {
     struct world world;
@@ -243,6 +270,8 @@ void group_refusals(void)
         expect(14, unsound(record_call(&world, POWER_LOST, 0, 0, 0)));
         expect(0, record_call(&world, POWER_LOST, 0, 0, 0));
         feeds(&world);
+        feeds_by_n(&world);
+        feeds_by_sum(&world);
     }
     world_open(&world, LP5860, 0, 0);
     world_set(&world, REGISTER, 0x000, 0x01, 0);
