@@ -9,12 +9,14 @@ use map::Kind;
 use map::Place;
 
 // How many addresses there are, and so an address that no chip has.
-const ADDRESSES: usize = 908;
+pub const ADDRESSES: usize = 908;
 
 // That there is nothing to compare, that row and map agree, or in what they differ.
 pub enum Finding {
     Nothing,
     Agrees,
+    // that another row of the member has the address
+    Twice,
     // the map's reset value
     Default(usize),
     // a line and a sink that the row names, of a dot that the chip has not
@@ -30,7 +32,7 @@ pub enum Finding {
 }
 
 // The address so many places before another; where there is none, one that no chip has.
-fn before(address: usize, by: usize) -> usize {
+pub fn before(address: usize, by: usize) -> usize {
     if address < by {
         ADDRESSES
     } else {

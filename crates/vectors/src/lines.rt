@@ -1,4 +1,5 @@
 // One line of the file: it is parsed, each comparison is made, and what disagrees is printed and counted.
+use crate::addresses;
 use crate::compare;
 use crate::compare::Finding;
 use crate::report;
@@ -42,11 +43,13 @@ fn compared(count: Count, text: &[u8], row: Row) -> Count {
     places(count, text, row)
 }
 
-fn row_counted(mut tally: Tally, text: &[u8], row: Row) -> Tally {
+fn row_counted(mut tally: Tally, text: &[u8], row: Row, marks: &mut [u8]) -> Tally {
     let member = row.member;
     if member < 5 {
         let count = tally.members[member];
-        let count = tally::listed(count, map::writable(member, row.address));
+        let writable = map::writable(member, row.address);
+        let count = tally::listed(count, writable, row.default == rows::LOST);
+        let count = noted(count, row, addresses::listed(marks, row));
         tally.members[member] = compared(count, text, row);
     }
     tally
@@ -58,9 +61,10 @@ pub fn broken(mut tally: Tally) -> Tally {
     tally
 }
 
-pub fn counted(tally: Tally, text: &[u8]) -> Tally {
+// Each row marks its address.
+pub fn counted(tally: Tally, text: &[u8], marks: &mut [u8]) -> Tally {
     match rows::parse(text) {
-        Parsed::Row(row) => row_counted(tally, text, row),
+        Parsed::Row(row) => row_counted(tally, text, row, marks),
         Parsed::Broken => broken(tally),
     }
 }

@@ -1,5 +1,7 @@
 // Compares the rows of the five data sheets' summary tables, in the file that its first argument names, with the register
-// map. It prints a line for each disagreement and for each line that does not parse, and then what it counted.
+// map, and what the map has for the addresses in no row with document 01. It prints a line for each disagreement and for each
+// line that does not parse, and then what it counted.
+mod addresses;
 mod compare;
 mod examples;
 mod lines;
@@ -38,27 +40,27 @@ fn new_reader() -> Reader {
     }
 }
 
-fn line_counted(mut tally: Tally, line: [u8; ROOM], length: usize) -> Tally {
+fn line_counted(mut tally: Tally, line: [u8; ROOM], length: usize, marks: &mut [u8]) -> Tally {
     tally.lines = tally::plus(tally.lines, 1);
     if length <= ROOM {
-        lines::counted(tally, &line[0..length])
+        lines::counted(tally, &line[0..length], marks)
     } else {
         lines::broken(tally)
     }
 }
 
-fn line_ended(mut reader: Reader) -> Reader {
+fn line_ended(mut reader: Reader, marks: &mut [u8]) -> Reader {
     let line = reader.line;
     let tally = reader.tally;
-    let tally = line_counted(tally, line, reader.length);
+    let tally = line_counted(tally, line, reader.length, marks);
     reader.tally = tally;
     reader.length = 0;
     reader
 }
 
-fn with_byte(mut reader: Reader, byte: u8) -> Reader {
+fn with_byte(mut reader: Reader, byte: u8, marks: &mut [u8]) -> Reader {
     if byte == b'\n' {
-        return line_ended(reader);
+        return line_ended(reader, marks);
     }
     let length = reader.length;
     if length < ROOM {
@@ -70,40 +72,41 @@ fn with_byte(mut reader: Reader, byte: u8) -> Reader {
     reader
 }
 
-fn with_bytes(mut reader: Reader, bytes: &[u8]) -> Reader {
+fn with_bytes(mut reader: Reader, bytes: &[u8], marks: &mut [u8]) -> Reader {
     for i in 0..bytes.len() {
-        reader = with_byte(reader, bytes[i]);
+        reader = with_byte(reader, bytes[i], marks);
     }
     reader
 }
 
-fn read_some(reader: Reader, file: i32) -> Reader {
+fn read_some(reader: Reader, file: i32, marks: &mut [u8]) -> Reader {
     let mut buffer = [0u8; 512];
     let got = libc::read(file, &mut buffer);
     let n = io::count(got, &buffer);
-    let mut reader = with_bytes(reader, &buffer[..n]);
+    let mut reader = with_bytes(reader, &buffer[..n], marks);
     reader.got = got;
     reader
 }
 
 // A proved loop has to end, and nothing says that a file does. So the loop counts its turns down, from a number that no run
 // uses up.
-fn read_all(file: i32) -> Reader {
+fn read_all(file: i32, marks: &mut [u8]) -> Reader {
     let mut reader = new_reader();
     let mut turns = u64::MAX;
     while 0 < turns && 0 < reader.got {
-        reader = read_some(reader, file);
+        reader = read_some(reader, file, marks);
         turns -= 1;
     }
     // the last line of the file may lack its line end
     if reader.got == 0 && 0 < reader.length {
-        reader = line_ended(reader);
+        reader = line_ended(reader, marks);
     }
     reader
 }
 
 // A member's rows must be of all its writable addresses.
-fn member_counted(member: usize, count: Count) -> Count {
+fn member_counted(member: usize, count: Count, marks: &[u8]) -> Count {
+    let count = addresses::counted(count, member, marks);
     let writable = compare::writable_addresses(member);
     let agrees = count.writable == writable;
     if !agrees {
@@ -114,11 +117,12 @@ fn member_counted(member: usize, count: Count) -> Count {
     count
 }
 
-fn finish(tally: Tally) {
+fn finish(tally: Tally, marks: &[u8]) {
     let members = tally.members;
     let mut total = tally::nothing();
     for member in 0..5 {
-        total = tally::together(total, member_counted(member, members[member]));
+        let count = member_counted(member, members[member], marks);
+        total = tally::together(total, count);
     }
     report::total(tally::together(total, examples::run()), tally.broken);
 }
@@ -127,7 +131,10 @@ fn main() {
     let mut path = io::buffer();
     let length = os::arg(1, &mut path);
     if os::errno() != 0 {
-        report::say(b"vectors: the first argument must name the file of rows\n");
+        report::failed(
+            b"vectors: the first argument must name the file of rows",
+            b"",
+        );
         return;
     }
     let file = os::open_read(&path[..length]);
@@ -135,12 +142,13 @@ fn main() {
         report::failed(b"vectors: cannot open ", &path[..length]);
         return;
     }
-    let reader = read_all(file);
+    let mut marks = [0u8; addresses::MARKS];
+    let reader = read_all(file, &mut marks);
     libc::close(file);
     if reader.got < 0 {
         report::failed(b"vectors: cannot read ", &path[..length]);
         return;
     }
     let tally = reader.tally;
-    finish(tally);
+    finish(tally, &marks);
 }

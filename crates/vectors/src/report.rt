@@ -1,13 +1,14 @@
-// What the program prints, all of it on standard output.
+// What the program prints, on standard output; that it cannot run, on standard error.
 use crate::compare::Finding;
 use crate::rows;
 use crate::rows::Holds;
 use crate::rows::Row;
 use crate::tally::Count;
+use libc::STDERR_FILENO;
 use libc::STDOUT_FILENO;
 use map::Place;
 
-pub fn say(text: &[u8]) {
+fn say(text: &[u8]) {
     io::write_all(STDOUT_FILENO, text);
 }
 
@@ -104,6 +105,7 @@ fn say_finding(row: Row, finding: Finding) {
     match finding {
         Finding::Nothing => {}
         Finding::Agrees => {}
+        Finding::Twice => say(b"in two rows"),
         Finding::Default(map) => {
             say_byte(b"default ", row.default);
             say_byte(b", map ", map);
@@ -149,9 +151,31 @@ pub fn missing(member: usize, listed: u64, writable: u64) {
     say(b"\n");
 }
 
+// An address and what the map has for it: it is in no row and resets to another value than 00h.
+pub fn reset(member: usize, address: usize, map: usize) {
+    say_member(member);
+    say_address(b" ", address);
+    say_byte(b": in no row, map resets it to ", map);
+    say(b"\n");
+}
+
+// An address that carries a dot and is not writable, or that is writable with no dot.
+pub fn carried(member: usize, address: usize, writable: bool) {
+    say_member(member);
+    say_address(b" ", address);
+    if writable {
+        say(b": carries no dot, map has it writable\n");
+    } else {
+        say(b": carries a dot, map has it not writable\n");
+    }
+}
+
 fn say_count(count: Count) {
     say_decimal(b": ", count.rows);
-    say_decimal(b" rows, ", count.comparisons);
+    say_decimal(b" rows, ", count.lost);
+    say_decimal(b" without a default; ", count.unlisted);
+    say_decimal(b" addresses in no row, ", count.carried);
+    say_decimal(b" with a dot; ", count.comparisons);
     say_decimal(b" comparisons, ", count.disagreements);
     say(b" disagreements");
 }
@@ -180,7 +204,7 @@ pub fn example(text: &[u8], agrees: bool) {
 }
 
 pub fn failed(text: &[u8], path: &[u8]) {
-    say(text);
-    say(path);
-    say(b"\n");
+    io::write_all(STDERR_FILENO, text);
+    io::write_all(STDERR_FILENO, path);
+    io::write_all(STDERR_FILENO, b"\n");
 }

@@ -6,10 +6,10 @@ use Rattle.vectors.proofs.finish.Statement.{statement}
 use Rattle.vectors.proofs.finish.Tie as tie
 
 abbrev Inv-loop : tie.InvT-loop
-Inv-loop tally members total₀ member₀ total member = member ≤ 5
+Inv-loop tally marks members total₀ member₀ total member = member ≤ 5
 
 abbrev μ-loop : tie.MeasureT-loop
-μ-loop tally members total₀ member₀ total member = 5 - member
+μ-loop tally marks members total₀ member₀ total member = 5 - member
 
 nothing-requires : tie.Need-nothing-requires Inv-loop μ-loop
 nothing-requires c κs = search needs

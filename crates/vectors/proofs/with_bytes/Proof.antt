@@ -1,5 +1,6 @@
--- `vectors::with_bytes` is safe and ends. The measure is the number of bytes that are left.
+-- `vectors::with_bytes` is safe and ends. The measure is the number of bytes that are left; the marks keep their number.
 -- Assumes nothing.
+use mathlib.Core.Path.{_≡_}
 use Prim.Native.Nat.{_≤_, _-_}
 use lib.ListN.{length}
 use borrow.Author.Needs.{needs}
@@ -7,10 +8,10 @@ use Rattle.vectors.proofs.with_bytes.Statement.{statement}
 use Rattle.vectors.proofs.with_bytes.Tie as tie
 
 abbrev Inv-loop : tie.InvT-loop
-Inv-loop reader₀ bytes i₀ i-end reader i = i ≤ length bytes
+Inv-loop reader₀ bytes marks₀ i₀ i-end reader marks i = (i ≤ length bytes) × (length marks ≡ length marks₀)
 
 abbrev μ-loop : tie.MeasureT-loop
-μ-loop reader₀ bytes i₀ i-end reader i = length bytes - i
+μ-loop reader₀ bytes marks₀ i₀ i-end reader marks i = length bytes - i
 
 loop-holds : tie.Need-loop-holds Inv-loop μ-loop
 loop-holds c = search needs
@@ -30,6 +31,9 @@ loop-less c = search needs
 loop-again : tie.Need-loop-again Inv-loop μ-loop
 loop-again c = search needs
 
+same-length : tie.Need-same-length Inv-loop μ-loop
+same-length c = search needs
+
 returns : tie.Need-returns Inv-loop μ-loop
 returns c = search needs
 
@@ -45,4 +49,5 @@ with-bytes-spec =
     add-i
     loop-less
     loop-again
+    same-length
     returns)
