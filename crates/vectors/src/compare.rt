@@ -1,12 +1,11 @@
 // One row against the register map. Each comparison answers a Finding; none prints.
-use crate::rows;
-use crate::rows::Holds;
-use crate::rows::Named;
-use crate::rows::Row;
 use map::Dot;
 use map::Field;
 use map::Kind;
 use map::Place;
+use rows::Holds;
+use rows::Named;
+use rows::Row;
 
 // How many addresses there are, and so an address that no chip has.
 pub const ADDRESSES: usize = 908;

@@ -1,14 +1,13 @@
 // One line of the file: it is parsed, each comparison is made, and what disagrees is printed and counted.
 use crate::addresses;
-use crate::compare;
 use crate::compare::Finding;
+use crate::compare;
 use crate::report;
-use crate::rows;
-use crate::rows::Parsed;
-use crate::rows::Row;
-use crate::tally;
 use crate::tally::Count;
 use crate::tally::Tally;
+use crate::tally;
+use rows::Parsed;
+use rows::Row;
 
 fn noted(count: Count, row: Row, finding: Finding) -> Count {
     match finding {

@@ -6,7 +6,6 @@ mod compare;
 mod examples;
 mod lines;
 mod report;
-mod rows;
 mod tally;
 
 use tally::Count;

@@ -1,10 +1,10 @@
--- `vectors::rows::start` meets its contract. The invariant: at most n words are passed, and the place stays in the text.
+-- `rows::start` meets its contract. The invariant: at most n words are passed, and the place stays in the text.
 -- Assumes nothing.
 use Prim.Native.Nat.{_≤_, _-_}
 use lib.ListN.{length}
 use borrow.Author.Needs.{needs}
-use Rattle.vectors.proofs.rows.start.Statement.{statement}
-use Rattle.vectors.proofs.rows.start.Tie as tie
+use Rattle.rows.proofs.start.Statement.{statement}
+use Rattle.rows.proofs.start.Tie as tie
 
 abbrev Inv-loop : tie.InvT-loop
 Inv-loop text n at₀ i₀ at i = (i ≤ n) × (at ≤ length text)

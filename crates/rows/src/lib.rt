@@ -1,4 +1,4 @@
-// One line of the file of rows. Its words, separated by single spaces, are
+// One row of a data sheet's summary table, as a line of text. Its words, separated by single spaces, are
 //
 //     member address type default mask holds dot ..
 //
@@ -12,7 +12,7 @@
 //     pwm                           the dot whose 8 bits these are, whose low byte of 16, whose high byte of 16
 //
 // A dot is LINE.SINK, each a decimal of one or two digits. For a bit, and after pwm, `-` stands for no dot.
-ghost use Prim.Native.Nat.{_<_, _≤_};
+ghost use Prim.Native.Nat.{_≤_};
 ghost use lib.ListN.{length};
 
 // What a text that is no number is read as: more than any number of a row.
@@ -205,10 +205,11 @@ fn read_dot(text: &[u8]) -> Named {
     Named::Dot(line, sink)
 }
 
-// What the row names for the bit or byte at an index.
-pub fn name_at(text: &[u8], holds: Holds, index: usize) -> Named
-    requires { ⌜ index < 8 ⌝ }
-{
+// What the row names for the bit or byte at an index; a row names eight at most.
+pub fn name_at(text: &[u8], holds: Holds, index: usize) -> Named {
+    if 8 <= index {
+        return Named::Unknown;
+    }
     let text = word(text, 6 + index);
     if !check::same(text, b"-") {
         return read_dot(text);

@@ -1,10 +1,10 @@
--- `vectors::rows::number` meets its contract. The invariant: the value has three digits at most.
+-- `rows::number` meets its contract. The invariant: the value has three digits at most.
 -- Assumes nothing.
 use Prim.Native.Nat.{_≤_, _-_}
 use lib.ListN.{length}
 use borrow.Author.Needs.{needs}
-use Rattle.vectors.proofs.rows.number.Statement.{statement}
-use Rattle.vectors.proofs.rows.number.Tie as tie
+use Rattle.rows.proofs.number.Statement.{statement}
+use Rattle.rows.proofs.number.Tie as tie
 
 abbrev Inv-loop : tie.InvT-loop
 Inv-loop text least most value₀ i₀ i-end value i = (i ≤ length text) × (value ≤ 4095)

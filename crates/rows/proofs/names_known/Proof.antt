@@ -1,9 +1,9 @@
--- `vectors::rows::names_known` is safe and ends. The measure is the number of words that are left.
+-- `rows::names_known` is safe and ends. The measure is the number of words that are left.
 -- Assumes nothing.
 use Prim.Native.Nat.{_≤_, _-_}
 use borrow.Author.Needs.{needs}
-use Rattle.vectors.proofs.rows.names_known.Statement.{statement}
-use Rattle.vectors.proofs.rows.names_known.Tie as tie
+use Rattle.rows.proofs.names_known.Statement.{statement}
+use Rattle.rows.proofs.names_known.Tie as tie
 
 abbrev Inv-loop : tie.InvT-loop
 Inv-loop text holds index₀ index-end index = index ≤ index-end
