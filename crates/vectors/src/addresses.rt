@@ -3,12 +3,12 @@
 //
 // "A member's own summary table overrides; an address it does not list resets to 00h." "An address is writable for a member if it
 // is 000h-00Bh, or carries a bit for one of its dots as group, switch, current or PWM in either data mode." (document 01)
+use crate::compare;
 use crate::compare::ADDRESSES;
 use crate::compare::Finding;
-use crate::compare;
 use crate::report;
-use crate::tally::Count;
 use crate::tally;
+use crate::tally::Count;
 use map::Field;
 use map::Place;
 use rows::Row;

@@ -1,11 +1,11 @@
 // One line of the file: it is parsed, each comparison is made, and what disagrees is printed and counted.
 use crate::addresses;
-use crate::compare::Finding;
 use crate::compare;
+use crate::compare::Finding;
 use crate::report;
+use crate::tally;
 use crate::tally::Count;
 use crate::tally::Tally;
-use crate::tally;
 use rows::Parsed;
 use rows::Row;
 
