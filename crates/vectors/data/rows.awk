@@ -4,7 +4,7 @@
 #
 # A row of a summary table is a line whose second cell is an address and whose third is a type; cells are separated by tabs. Its
 # last cell is the default. The cells between are the fields from bit 7 down to bit 0, but the text has lost or added empty cells,
-# so that no column can be trusted: fields are counted from bit 0 up by their widths. src/rows.rt says what is written.
+# so that no column can be trusted: fields are counted from bit 0 up by their widths. crates/rows/src/lib.rt says what is written.
 BEGIN {
     FS = "\t"
     split("0 1 4 2 3", members, " ")
