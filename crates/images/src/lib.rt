@@ -1,49 +1,34 @@
-// Whole images, by ranges of addresses: the test that host and chip run in every call, and the reset values.
+// Whole images: the test that host and chip run in every call, and the reset values.
 //
-// The ranges, with n the member's lines: the first twelve, the groups of n lines, the switches of n lines, the fault bytes,
-// the currents of n lines and the levels of n lines; between them, and behind 38Bh - 36 x (11 - n), every byte is 0, but
-// for the switch bytes that the summary table lists beyond its lines.
+// 000h to 063h are tested by a table of reserved bits, one for each member. Behind them, with n the member's lines: the fault bytes
+// stand at 064h to 0A6h, the currents of n lines from 100h on and the levels of n lines from 200h on, and every byte between and
+// behind is 0. Currents and levels may be any bytes, but for the LP5867: its absent sinks are tested by tables too. No loop stops early, so
+// that many bytes are taken at once.
+mod tables;
+
 ghost use mathlib.Core.Path.{_≡_};
-ghost use mathlib.Core.List.{List, [], _∷_};
 ghost use Prim.Native.Nat.{ℕ, _+_, _*_, _-_, _<_, _≤_};
 ghost use lib.ListN.{length};
-ghost use Rattle.map.specs.Lists.{allFrom, filled};
-ghost use Rattle.map.specs.Map.{linesOf, columnsOf, groupMask, switchMask, switchBytesOf, resetOf};
-ghost use Rattle.map.specs.Images.{okByte, okAt, zeroAt, imageOk, registersOk, resetImage};
+ghost use Rattle.map.specs.Lists.{allFrom};
+ghost use Rattle.map.specs.Map.{linesOf};
+ghost use Rattle.map.specs.Images.{okAt, zeroAt, imageOk, registersOk, resetImage};
 ghost use Rattle.images.specs.Ranges.{Row, zeroImage};
 
 // The bytes from `at` on have their reset values in the reserved bits that `masks` gives.
 fn row_ok(member: usize, image: &[u8], at: usize, masks: &[u8], resets: &[u8]) -> bool
-    requires { ⌜ (length (now image) ≡ 908) × (at + length (now masks) ≤ 908) × (length (now resets) ≡ length (now masks)) × Row member at (now masks) (now resets) ⌝ }
+    requires { ⌜ (length (now image) ≡ 908) × (at + length (now masks) ≤ 908) × (length (now masks) ≤ length (now resets)) × Row member at (now masks) (now resets) ⌝ }
     ensures { λ r. ⌜ r ≡ allFrom (okAt member (now (image .entry))) at (length (now (masks .entry))) ⌝ }
 {
+    let mut bits: u8 = 0;
     let mut q: usize = 0;
     while q < masks.len() {
-        let mask = masks[q];
-        if image[at + q] & mask != resets[q] & mask {
-            return false;
-        }
+        bits = bits | ((image[at + q] & masks[q]) ^ (resets[q] & masks[q]));
         q += 1;
     }
-    true
+    bits == 0
 }
 
-// The same for each of n lines, whose rows follow one another.
-fn rows_ok(member: usize, image: &[u8], first: usize, n: usize, masks: &[u8], resets: &[u8]) -> bool
-    requires { ⌜ (length (now image) ≡ 908) × (n ≤ 11) × (length (now masks) ≤ 5) × (first + 11 * length (now masks) ≤ 908) × (length (now resets) ≡ length (now masks)) × ((l : ℕ) → l < n → Row member (first + length (now masks) * l) (now masks) (now resets)) ⌝ }
-    ensures { λ r. ⌜ r ≡ allFrom (okAt member (now (image .entry))) first (length (now (masks .entry)) * n) ⌝ }
-{
-    let mut line: usize = 0;
-    while line < n {
-        if !row_ok(member, image, first + masks.len() * line, masks, resets) {
-            return false;
-        }
-        line += 1;
-    }
-    true
-}
-
-// Every one of n bytes from `from` on is 0. The bits are gathered with no early return, so that many bytes are taken at once.
+// Every one of n bytes from `from` on is 0.
 fn zeros(image: &[u8], from: usize, n: usize) -> bool
     requires { ⌜ (length (now image) ≡ 908) × (from + n ≤ 908) ⌝ }
     ensures { λ r. ⌜ r ≡ allFrom (zeroAt (now (image .entry))) from n ⌝ }
@@ -57,148 +42,78 @@ fn zeros(image: &[u8], from: usize, n: usize) -> bool
     bits == 0
 }
 
-// The switch bytes behind the member's lines.
-fn switch_rest_ok(member: usize, image: &[u8]) -> bool
-    requires { ⌜ (member < 5) × (length (now image) ≡ 908) ⌝ }
-    ensures { λ r. ⌜ r ≡ allFrom (okAt member (now (image .entry))) (0x043 + 3 * linesOf member) (33 - 3 * linesOf member) ⌝ }
+// 000h to 063h of each member.
+fn low_lp5860(image: &[u8]) -> bool
+    requires { ⌜ length (now image) ≡ 908 ⌝ }
+    ensures { λ r. ⌜ r ≡ allFrom (okAt 0 (now (image .entry))) 0 100 ⌝ }
 {
-    let listed = map::switch_bytes(member);
-    let from = 3 * map::lines(member);
-    let mut i: usize = 0;
-    while i < 33 - from {
-        if image[0x043 + from + i] != map::switch_reset(listed, from + i) {
-            return false;
-        }
-        i += 1;
-    }
-    true
+    row_ok(0, image, 0, &tables::LP5860_LOW, &tables::LP5860_RESETS)
 }
 
-// The groups: five bytes a line.
-fn groups_ok(member: usize, image: &[u8]) -> bool
-    requires { ⌜ (member < 5) × (length (now image) ≡ 908) ⌝ }
-    ensures { λ r. ⌜ r ≡ allFrom (okAt member (now (image .entry))) 0x00C 55 ⌝ }
+fn low_lp5861t(image: &[u8]) -> bool
+    requires { ⌜ length (now image) ≡ 908 ⌝ }
+    ensures { λ r. ⌜ r ≡ allFrom (okAt 1 (now (image .entry))) 0 100 ⌝ }
 {
-    let n = map::lines(member);
-    let masks = group_masks(map::columns(member));
-    if !rows_ok(member, image, 0x00C, n, &masks, &[0, 0, 0, 0, 0]) {
-        return false;
-    }
-    zeros(image, 0x00C + 5 * n, 55 - 5 * n)
+    row_ok(1, image, 0, &tables::LP5861T_LOW, &tables::LP5861T_RESETS)
 }
 
-// The switches: three bytes a line.
-fn switches_ok(member: usize, image: &[u8]) -> bool
-    requires { ⌜ (member < 5) × (length (now image) ≡ 908) ⌝ }
-    ensures { λ r. ⌜ r ≡ allFrom (okAt member (now (image .entry))) 0x043 33 ⌝ }
+fn low_lp5864(image: &[u8]) -> bool
+    requires { ⌜ length (now image) ≡ 908 ⌝ }
+    ensures { λ r. ⌜ r ≡ allFrom (okAt 2 (now (image .entry))) 0 100 ⌝ }
 {
-    let n = map::lines(member);
-    let masks = switch_masks(map::columns(member));
-    if !rows_ok(member, image, 0x043, n, &masks, &[0xFF, 0xFF, 0x03]) {
-        return false;
-    }
-    switch_rest_ok(member, image)
+    row_ok(2, image, 0, &tables::LP5864_LOW, &tables::LP5864_RESETS)
 }
 
-fn group_masks(columns: u32) -> [u8; 5]
-    ensures { λ r. ⌜ r ≡ groupMask columns 0 ∷ groupMask columns 1 ∷ groupMask columns 2 ∷ groupMask columns 3 ∷ groupMask columns 4 ∷ [] ⌝ }
+fn low_lp5867(image: &[u8]) -> bool
+    requires { ⌜ length (now image) ≡ 908 ⌝ }
+    ensures { λ r. ⌜ r ≡ allFrom (okAt 3 (now (image .entry))) 0 100 ⌝ }
 {
-    [
-        map::group_mask(columns, 0),
-        map::group_mask(columns, 1),
-        map::group_mask(columns, 2),
-        map::group_mask(columns, 3),
-        map::group_mask(columns, 4),
-    ]
+    row_ok(3, image, 0, &tables::LP5867_LOW, &tables::LP5867_RESETS)
 }
 
-fn switch_masks(columns: u32) -> [u8; 3]
-    ensures { λ r. ⌜ r ≡ switchMask columns 0 ∷ switchMask columns 1 ∷ switchMask columns 2 ∷ [] ⌝ }
+fn low_lp5868t(image: &[u8]) -> bool
+    requires { ⌜ length (now image) ≡ 908 ⌝ }
+    ensures { λ r. ⌜ r ≡ allFrom (okAt 4 (now (image .entry))) 0 100 ⌝ }
 {
-    [
-        map::switch_mask(columns, 0),
-        map::switch_mask(columns, 1),
-        map::switch_mask(columns, 2),
-    ]
+    row_ok(4, image, 0, &tables::LP5868T_LOW, &tables::LP5868T_RESETS)
 }
 
-// A byte at dot number d of the member's lines in the currents: 80h where the sink is absent.
-fn current_ok(member: usize, lines: usize, columns: u32, d: usize, value: u8) -> bool
-    requires { ⌜ (lines ≡ linesOf member) × (columns ≡ columnsOf member) × (d < 18 * lines) × (lines ≤ 11) ⌝ }
-    ensures { λ r. ⌜ r ≡ okByte member (0x100 + d) value ⌝ }
-{
-    if value == 0x80 {
-        return true;
-    }
-    map::number_in(lines, columns, d)
-}
-
-fn currents_ok(member: usize, image: &[u8]) -> bool
-    requires { ⌜ (member < 5) × (length (now image) ≡ 908) ⌝ }
-    ensures { λ r. ⌜ r ≡ allFrom (okAt member (now (image .entry))) 0x100 (18 * linesOf member) ⌝ }
-{
-    let n = map::lines(member);
-    let columns = map::columns(member);
-    if columns == 0x3FFFF {
-        return true;
-    }
-    let mut d: usize = 0;
-    while d < 18 * n {
-        if !current_ok(member, n, columns, d, image[0x100 + d]) {
-            return false;
-        }
-        d += 1;
-    }
-    true
-}
-
-// A byte at place x of the levels: 0 where neither data mode has a dot there.
-fn level_ok(member: usize, lines: usize, columns: u32, x: usize, value: u8) -> bool
-    requires { ⌜ (lines ≡ linesOf member) × (columns ≡ columnsOf member) × (x < 396) ⌝ }
-    ensures { λ r. ⌜ r ≡ okByte member (0x200 + x) value ⌝ }
-{
-    if value == 0 {
-        return true;
-    }
-    map::pwm_reserved(lines, columns, x) == 0
-}
-
-fn levels_ok(member: usize, image: &[u8]) -> bool
-    requires { ⌜ (member < 5) × (length (now image) ≡ 908) ⌝ }
-    ensures { λ r. ⌜ r ≡ allFrom (okAt member (now (image .entry))) 0x200 (36 * linesOf member) ⌝ }
-{
-    let n = map::lines(member);
-    let columns = map::columns(member);
-    if columns == 0x3FFFF {
-        return true;
-    }
-    let mut x: usize = 0;
-    while x < 36 * n {
-        if !level_ok(member, n, columns, x, image[0x200 + x]) {
-            return false;
-        }
-        x += 1;
-    }
-    true
-}
-
-// 000h to 063h.
 fn low_ok(member: usize, image: &[u8]) -> bool
     requires { ⌜ (member < 5) × (length (now image) ≡ 908) ⌝ }
     ensures { λ r. ⌜ r ≡ allFrom (okAt member (now (image .entry))) 0 100 ⌝ }
 {
-    let masks = map::first_masks(member);
-    let resets = map::first_resets(member);
-    if !row_ok(member, image, 0, &masks, &resets) {
-        return false;
+    match member {
+        0 => low_lp5860(image),
+        1 => low_lp5861t(image),
+        2 => low_lp5864(image),
+        3 => low_lp5867(image),
+        _ => low_lp5868t(image),
     }
-    if !groups_ok(member, image) {
-        return false;
-    }
-    switches_ok(member, image)
 }
 
-// 0A7h to 38Bh.
+// 100h on: only the LP5867 has reserved bits among the currents of its lines.
+fn currents_ok(member: usize, image: &[u8]) -> bool
+    requires { ⌜ (member < 5) × (length (now image) ≡ 908) ⌝ }
+    ensures { λ r. ⌜ r ≡ allFrom (okAt member (now (image .entry))) 0x100 (18 * linesOf member) ⌝ }
+{
+    if member != 3 {
+        return true;
+    }
+    row_ok(3, image, 0x100, &tables::LP5867_CURRENTS, &[0x80; 126])
+}
+
+// 200h on, likewise.
+fn levels_ok(member: usize, image: &[u8]) -> bool
+    requires { ⌜ (member < 5) × (length (now image) ≡ 908) ⌝ }
+    ensures { λ r. ⌜ r ≡ allFrom (okAt member (now (image .entry))) 0x200 (36 * linesOf member) ⌝ }
+{
+    if member != 3 {
+        return true;
+    }
+    row_ok(3, image, 0x200, &tables::LP5867_LEVELS, &[0; 252])
+}
+
+// 0A7h to 38Bh, range by range.
 fn high_ok(member: usize, image: &[u8]) -> bool
     requires { ⌜ (member < 5) × (length (now image) ≡ 908) ⌝ }
     ensures { λ r. ⌜ r ≡ allFrom (okAt member (now (image .entry))) 0x0A7 741 ⌝ }
@@ -245,40 +160,35 @@ pub fn image_ok(member: usize, image: &[u8]) -> bool
     zeros(image, 0x064, 67)
 }
 
-fn put_firsts(member: usize, image: &mut [u8; 908])
-    requires { ⌜ (member < 5) × (length (now image) ≡ 908) ⌝ }
-    ensures { λ _. ⌜ now (image .exit) ≡ filled (resetOf member) 0 12 (now (image .entry)) ⌝ }
+// Every address at its reset value, for each member.
+fn reset_lp5860() -> [u8; 908]
+    ensures { λ r. ⌜ r ≡ resetImage 0 ⌝ }
 {
-    let resets = map::first_resets(member);
-    let mut a: usize = 0;
-    while a < 12 {
-        image[a] = resets[a];
-        a += 1;
-    }
+    tables::LP5860_RESETS
 }
 
-fn put_switches(member: usize, image: &mut [u8; 908])
-    requires { ⌜ (member < 5) × (length (now image) ≡ 908) ⌝ }
-    ensures { λ _. ⌜ now (image .exit) ≡ filled (resetOf member) 0x043 33 (now (image .entry)) ⌝ }
+fn reset_lp5861t() -> [u8; 908]
+    ensures { λ r. ⌜ r ≡ resetImage 1 ⌝ }
 {
-    let listed = map::switch_bytes(member);
-    let mut x: usize = 0;
-    while x < 33 {
-        image[0x043 + x] = map::switch_reset(listed, x);
-        x += 1;
-    }
+    tables::LP5861T_RESETS
 }
 
-fn put_currents(member: usize, image: &mut [u8; 908])
-    requires { ⌜ (member < 5) × (length (now image) ≡ 908) ⌝ }
-    ensures { λ _. ⌜ now (image .exit) ≡ filled (resetOf member) 0x100 198 (now (image .entry)) ⌝ }
+fn reset_lp5864() -> [u8; 908]
+    ensures { λ r. ⌜ r ≡ resetImage 2 ⌝ }
 {
-    let n = map::lines(member);
-    let mut d: usize = 0;
-    while d < 198 {
-        image[0x100 + d] = map::current_reset(n, d);
-        d += 1;
-    }
+    tables::LP5864_RESETS
+}
+
+fn reset_lp5867() -> [u8; 908]
+    ensures { λ r. ⌜ r ≡ resetImage 3 ⌝ }
+{
+    tables::LP5867_RESETS
+}
+
+fn reset_lp5868t() -> [u8; 908]
+    ensures { λ r. ⌜ r ≡ resetImage 4 ⌝ }
+{
+    tables::LP5868T_RESETS
 }
 
 fn zero_image() -> [u8; 908]
@@ -287,16 +197,16 @@ fn zero_image() -> [u8; 908]
     [0u8; 908]
 }
 
-// Every address at its reset value; all 0 for a member above 4.
+// The reset values of a member; all 0 for a code above 4.
 pub fn reset_image(member: usize) -> [u8; 908]
     ensures { λ r. ⌜ r ≡ resetImage member ⌝ }
 {
-    let mut image = zero_image();
-    if 4 < member {
-        return image;
+    match member {
+        0 => reset_lp5860(),
+        1 => reset_lp5861t(),
+        2 => reset_lp5864(),
+        3 => reset_lp5867(),
+        4 => reset_lp5868t(),
+        _ => zero_image(),
     }
-    put_firsts(member, &mut image);
-    put_switches(member, &mut image);
-    put_currents(member, &mut image);
-    image
 }
