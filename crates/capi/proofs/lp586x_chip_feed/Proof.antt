@@ -5,8 +5,11 @@ use Rattle.capi.proofs.Settled.{chip-wrong, fed-is}
 use Rattle.capi.proofs.lp586x_chip_feed.Statement.{statement}
 use Rattle.capi.proofs.lp586x_chip_feed.Tie as tie
 
+wrong-size-requires : tie.Need-wrong-size-requires
+wrong-size-requires c κs = search needs
+
 returns : tie.Need-returns
-returns c = chip-wrong _ _ _ (c .if1 .taken)
+returns c = chip-wrong _ _ _ _ (c .before .if1 .taken) (c .wrong-size .ensures)
 
 load-chip-requires : tie.Need-load-chip-requires
 load-chip-requires c κs = search needs
@@ -26,4 +29,4 @@ returns-2 c = fed-is _ _ _ _ _ _ _ (c .before .before .before .before .before .f
 pub lp586x-chip-feed-spec : {M : Type 1} → statement M
 lp586x-chip-feed-spec =
     tie.close
-    (tie.spec returns load-chip-requires feed-requires settle-chip-requires same-length returns-2)
+    (tie.spec wrong-size-requires returns load-chip-requires feed-requires settle-chip-requires same-length returns-2)

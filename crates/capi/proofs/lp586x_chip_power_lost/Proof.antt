@@ -6,8 +6,11 @@ use Rattle.capi.proofs.Settled.{chip-wrong, chip-is}
 use Rattle.capi.proofs.lp586x_chip_power_lost.Statement.{statement}
 use Rattle.capi.proofs.lp586x_chip_power_lost.Tie as tie
 
+wrong-size-requires : tie.Need-wrong-size-requires
+wrong-size-requires c κs = search needs
+
 returns : tie.Need-returns
-returns c = chip-wrong _ _ _ (c .if1 .taken)
+returns c = chip-wrong _ _ _ _ (c .before .if1 .taken) (c .wrong-size .ensures)
 
 load-chip-requires : tie.Need-load-chip-requires
 load-chip-requires c κs = search needs
@@ -28,6 +31,7 @@ pub lp586x-chip-power-lost-spec : {M : Type 1} → statement M
 lp586x-chip-power-lost-spec =
     tie.close
     (tie.spec
+    wrong-size-requires
     returns
     load-chip-requires
     power-lost-requires
