@@ -20,12 +20,12 @@ use Rattle.host.specs.SettingLaws.{Sets, register-sets, lamp-sets, group-sets, 
 use Rattle.update.specs.declared.ListAnswer.{ListAnswer}
 use Rattle.update.specs.declared.ListAnswer.the-variants.{Listed, Short, Refused}
 use Rattle.update.specs.declared.Updated.{Updated}
-use Rattle.update.specs.Update.{isListed, listNumber, listSize, writesOf, updateAnswer, updateImage, updateOf, updateBuffer, commandAnswer, chipResetOf, resetBuffer, clearOf}
+use Rattle.update.specs.Update.{isListed, listNumber, listSize, writesOf, updateAnswer, updateImage, updateOf, updateBuffer, commandAnswer, commandBuffer, chipResetOf, resetBuffer, clearOf, clearOpensBuffer, clearShortsBuffer}
 use Rattle.chip.specs.declared.Chip.{Chip}
 use Rattle.chip.specs.Chip.{atResetOf, feedOf}
 use Rattle.capi.specs.Capi.{recordIn, recordBytes, chipBytes, recordSized, chipSized, whenSized, Outcome, settingNumber, settingBytes, settingOutcome, chipNumber, chipAfter, chipOutcome, listAnswer, listBytes, bufferAfter, stored, nAfter, tAfter, ListOutcome, listOutcome}
-use Rattle.capi.specs.CapiLaws.{record-round, record-back, chip-back, record-sized, chip-sized, record-length, chip-length, zero-accepted, zero-listed}
-use Rattle.capi.specs.Calls.{openCall, registerCall, lampCall, groupCall, switchCall, sceneCall, powerLostCall, updateCall, resetCall, chipAtResetCall, chipPowerLostCall, chipFeedCall}
+use Rattle.capi.specs.CapiLaws.{record-round, record-back, chip-back, record-sized, chip-sized, record-length, chip-length, zero-accepted, zero-listed, list-keeps, bytes-keep}
+use Rattle.capi.specs.Calls.{openCall, registerCall, lampCall, groupCall, switchCall, sceneCall, powerLostCall, updateCall, resetCall, clearOpensCall, clearShortsCall, chipAtResetCall, chipPowerLostCall, chipFeedCall}
 
 -- ---- Calls on values, as outcomes
 
@@ -218,3 +218,53 @@ module _ (bytes buffer : List ℕ) (n t : ℕ) where
   reset-inside z =
       listed-inside (recordSized bytes) (soundOf (recordIn bytes)) 1 3 (length buffer) (Refused BufferShort)
       (listAnswer bytes (chipResetOf (recordIn bytes) (length buffer))) refl refl n t z
+
+-- ---- "A refused call changes no byte that was lent to it": calls that write a list
+
+-- the record, the buffer, n and t are as they were
+pub record Unchanged (x : ListOutcome) (bytes buffer : List ℕ) (n t : ℕ) : Type 0 where
+  pub bytes-stay : x .bytes ≡ bytes
+  pub buffer-stays : x .buffer ≡ buffer
+  pub n-stays : x .n ≡ n
+  pub t-stays : x .t ≡ t
+
+module _ (bytes buffer : List ℕ) (n t : ℕ) where
+  -- the list over the buffer, where there is one, and the test of the record's size
+  lent-keeps : (fits : Bool) (answer : ListAnswer) (new : List ℕ) → (listNumber (cond fits answer (Refused Unsound)) ≡ 0 → ⊥) →
+      cond fits (cond (isListed answer) new buffer) buffer ≡ buffer
+  lent-keeps false answer new z = refl
+  lent-keeps true answer new z = rw (list-keeps answer z .unlisted) refl
+
+  list-refused : (x : Updated) (new : List ℕ) → (listNumber (listAnswer bytes x) ≡ 0 → ⊥) → bufferAfter bytes new buffer ≡ buffer →
+      Unchanged (listOutcome bytes x new buffer n t) bytes buffer n t
+  list-refused x new z e = record {
+    bytes-stay = bytes-keep bytes x z;
+    buffer-stays = e;
+    n-stays = list-keeps (listAnswer bytes x) z .n-stays n;
+    t-stays = list-keeps (listAnswer bytes x) z .t-stays t;
+  }
+
+  update-lent : (listNumber (listAnswer bytes (updateOf (recordIn bytes) (length buffer))) ≡ 0 → ⊥) →
+      bufferAfter bytes (updateBuffer (recordIn bytes) buffer) buffer ≡ buffer
+  unfolding listAnswer bufferAfter updateOf updateBuffer
+  update-lent z = lent-keeps (recordSized bytes) (updateAnswer (recordIn bytes) (length buffer)) _ z
+
+  pub update-refused : (updateCall bytes buffer n t .answer ≡ 0 → ⊥) → Unchanged (updateCall bytes buffer n t) bytes buffer n t
+  update-refused z = list-refused (updateOf (recordIn bytes) (length buffer)) (updateBuffer (recordIn bytes) buffer) z (update-lent z)
+
+  command-lent : (a v : ℕ) → (listNumber (cond (recordSized bytes) (commandAnswer (recordIn bytes) (length buffer)) (Refused Unsound)) ≡ 0 → ⊥) →
+      bufferAfter bytes (commandBuffer (recordIn bytes) a v buffer) buffer ≡ buffer
+  unfolding bufferAfter commandBuffer
+  command-lent a v z = lent-keeps (recordSized bytes) (commandAnswer (recordIn bytes) (length buffer)) _ z
+
+  pub reset-refused : (resetCall bytes buffer n t .answer ≡ 0 → ⊥) → Unchanged (resetCall bytes buffer n t) bytes buffer n t
+  unfolding listAnswer chipResetOf
+  reset-refused z = list-refused (chipResetOf (recordIn bytes) (length buffer)) (resetBuffer (recordIn bytes) buffer) z (command-lent 0x0A9 0xFF z)
+
+  pub clear-opens-refused : (clearOpensCall bytes buffer n t .answer ≡ 0 → ⊥) → Unchanged (clearOpensCall bytes buffer n t) bytes buffer n t
+  unfolding listAnswer clearOf
+  clear-opens-refused z = list-refused (clearOf (recordIn bytes) (length buffer)) (clearOpensBuffer (recordIn bytes) buffer) z (command-lent 0x0A7 0x0F z)
+
+  pub clear-shorts-refused : (clearShortsCall bytes buffer n t .answer ≡ 0 → ⊥) → Unchanged (clearShortsCall bytes buffer n t) bytes buffer n t
+  unfolding listAnswer clearOf
+  clear-shorts-refused z = list-refused (clearOf (recordIn bytes) (length buffer)) (clearShortsBuffer (recordIn bytes) buffer) z (command-lent 0x0A8 0x0F z)

@@ -20,11 +20,11 @@ use Rattle.host.specs.Record.{recordOf}
 use Rattle.update.specs.declared.ListAnswer.{ListAnswer}
 use Rattle.update.specs.declared.ListAnswer.the-variants.{Listed, Short, Refused}
 use Rattle.update.specs.declared.Updated.{Updated}
-use Rattle.update.specs.Update.{isListed, listNumber, updateAnswer, updateOf, updateBuffer, commandAnswer, commandBuffer, chipResetOf, resetBuffer, clearOf, clearOpensBuffer, clearShortsBuffer}
+use Rattle.update.specs.Update.{isListed, listNumber}
 use Rattle.chip.specs.declared.Chip.{Chip}
 use Rattle.chip.specs.Chip.{chipOf}
 use Rattle.faults.specs.Faults.{answered, answerNumbers, faultsChecked, faultsAnswer, faultsResult, opensAgree, shortsAgree}
-use Rattle.capi.specs.Capi.{imageAt, recordIn, recordBytes, chipIn, chipBytes, recordSized, chipSized, whenSized, settingNumber, settingBytes, chipNumber, chipAfter, listAnswer, listBytes, bufferAfter, stored, nAfter, tAfter, neededAfter}
+use Rattle.capi.specs.Capi.{imageAt, recordIn, recordBytes, chipIn, chipBytes, recordSized, chipSized, whenSized, settingNumber, settingBytes, chipNumber, chipAfter, listAnswer, listBytes, stored, nAfter, tAfter, neededAfter}
 
 -- ---- the bytes read back
 
@@ -126,7 +126,7 @@ zero-listed (Listed n t) e = refl
 zero-listed (Short needed) e = absurd (omega arith)
 zero-listed (Refused x) e = absurd (refusal-some x e)
 
--- ---- "A refused call changes no byte that was lent to it"
+-- ---- "A refused call changes no byte that was lent to it": calls that answer a number alone
 
 answer-keeps : (answer : Answer) (new old : List ℕ) → (answerNumber answer ≡ 0 → ⊥) → cond (accepted answer) new old ≡ old
 answer-keeps answers.the-variants.Accepted new old n = absurd (n refl)
@@ -142,7 +142,7 @@ pub chip-keeps : (bytes : List ℕ) (answer : Answer) (c : Chip) → (chipNumber
 unfolding chipNumber chipAfter
 chip-keeps bytes answer c n = answer-keeps (whenSized (chipSized bytes) answer) (chipBytes c) bytes n
 
--- ---- calls that write a list
+-- ---- what a list's answer stores
 
 -- a refusal carries only its number, so that there is nothing to store
 pub refused-stores : (number place : ℕ) (x : Refusal) (old : ℕ) → stored number (suc place) (Refused x) old ≡ old
@@ -183,33 +183,6 @@ needed-keeps (Refused x) needed z = refused-stores (refusalNumber BufferShort) 0
 pub bytes-keep : (bytes : List ℕ) (x : Updated) → (listNumber (listAnswer bytes x) ≡ 0 → ⊥) → listBytes bytes x ≡ bytes
 unfolding listBytes
 bytes-keep bytes x z = rw (list-keeps (listAnswer bytes x) z .unlisted) refl
-
-module _ (bytes buffer : List ℕ) where
-  lent-keeps : (sized : Bool) (answer : ListAnswer) (new : List ℕ) → (listNumber (cond sized answer (Refused Unsound)) ≡ 0 → ⊥) →
-      cond sized (cond (isListed answer) new buffer) buffer ≡ buffer
-  lent-keeps false answer new z = refl
-  lent-keeps true answer new z = rw (list-keeps answer z .unlisted) refl
-
-  -- the buffer stays
-  pub update-buffer-keeps : (listNumber (listAnswer bytes (updateOf (recordIn bytes) (length buffer))) ≡ 0 → ⊥) →
-      bufferAfter bytes (updateBuffer (recordIn bytes) buffer) buffer ≡ buffer
-  unfolding listAnswer bufferAfter updateOf updateBuffer
-  update-buffer-keeps z = lent-keeps (recordSized bytes) (updateAnswer (recordIn bytes) (length buffer)) _ z
-
-  command-buffer-keeps : (a v : ℕ) → (listNumber (cond (recordSized bytes) (commandAnswer (recordIn bytes) (length buffer)) (Refused Unsound)) ≡ 0 → ⊥) →
-      bufferAfter bytes (commandBuffer (recordIn bytes) a v buffer) buffer ≡ buffer
-  unfolding bufferAfter commandBuffer
-  command-buffer-keeps a v z = lent-keeps (recordSized bytes) (commandAnswer (recordIn bytes) (length buffer)) _ z
-
-  pub reset-buffer-keeps : (listNumber (listAnswer bytes (chipResetOf (recordIn bytes) (length buffer))) ≡ 0 → ⊥) →
-      bufferAfter bytes (resetBuffer (recordIn bytes) buffer) buffer ≡ buffer
-  unfolding listAnswer chipResetOf
-  reset-buffer-keeps z = command-buffer-keeps 0x0A9 0xFF z
-
-  pub clear-buffers-keep : (listNumber (listAnswer bytes (clearOf (recordIn bytes) (length buffer))) ≡ 0 → ⊥) →
-      (bufferAfter bytes (clearOpensBuffer (recordIn bytes) buffer) buffer ≡ buffer) × (bufferAfter bytes (clearShortsBuffer (recordIn bytes) buffer) buffer ≡ buffer)
-  unfolding listAnswer clearOf
-  clear-buffers-keep z = (command-buffer-keeps 0x0A7 0x0F z, command-buffer-keeps 0x0A8 0x0F z)
 
 -- ---- Faults
 

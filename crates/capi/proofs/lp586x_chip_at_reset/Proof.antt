@@ -22,7 +22,9 @@ same-length : tie.Need-same-length
 same-length c = search needs
 
 returns-2 : tie.Need-returns-2
-returns-2 c = chip-is _ _ _ _ _ _ _ (ap (λ x. x .answer) (c .before .before .before .before .before .at-reset .ensures)) (ap (λ x. x .chip) (c .before .before .before .before .before .at-reset .ensures)) (c .before .before .settle-chip .ensures)
+returns-2 c =
+    let made = c .before .before .before .before .before in
+    chip-is _ _ _ _ _ _ _ (ap (λ x. x .answer) (made .at-reset .ensures)) (ap (λ x. x .chip) (made .at-reset .ensures)) (c .before .before .settle-chip .ensures)
 
 pub lp586x-chip-at-reset-spec : {M : Type 1} → statement M
 lp586x-chip-at-reset-spec =

@@ -24,7 +24,9 @@ same-length : tie.Need-same-length
 same-length c = search needs
 
 returns-2 : tie.Need-returns-2
-returns-2 c = fed-is _ _ _ _ _ _ _ (c .before .before .before .before .before .feed .ensures) (c .before .before .before .before .before .before .load-chip .ensures) (c .before .before .settle-chip .ensures)
+returns-2 c =
+    let made = c .before .before .before .before .before in
+    fed-is _ _ _ _ _ _ _ (made .feed .ensures) (made .before .load-chip .ensures) (c .before .before .settle-chip .ensures)
 
 pub lp586x-chip-feed-spec : {M : Type 1} → statement M
 lp586x-chip-feed-spec =

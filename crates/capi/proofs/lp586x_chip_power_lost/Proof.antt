@@ -25,7 +25,9 @@ same-length : tie.Need-same-length
 same-length c = search needs
 
 returns-2 : tie.Need-returns-2
-returns-2 c = chip-is _ _ _ _ _ _ _ refl (c .before .before .before .before .power-lost .ensures ∙ rw (c .before .before .before .before .before .load-chip .ensures) refl) (c .before .before .settle-chip .ensures)
+returns-2 c =
+    let made = c .before .before .before .before in
+    chip-is _ _ _ _ _ _ _ refl (made .power-lost .ensures ∙ rw (made .before .load-chip .ensures) refl) (c .before .before .settle-chip .ensures)
 
 pub lp586x-chip-power-lost-spec : {M : Type 1} → statement M
 lp586x-chip-power-lost-spec =

@@ -29,7 +29,11 @@ same-length c = search needs
 
 returns-2 : tie.Need-returns-2
 unfolding listAnswer bufferAfter
-returns-2 c = rw (← (c .before .before .before .before .before .before .before .load .ensures), ← (c .before .before .before .before .before .clear-shorts .ensures .0), record-sized (c .before .before .before .before .before .before .before .before .before .before .before .args .bytes .now) (c .before .before .before .before .before .before .before .before .if1 .left)) (c .count .ensures .0, (c .before .before .before .before .before .clear-shorts .ensures .1, (c .count .ensures .1 .0, c .count .ensures .1 .1)))
+returns-2 c =
+    let made = c .before .before .before .before .before in
+    let sized = made .before .before .before in
+    rw (← (made .before .before .load .ensures), ← (made .clear-shorts .ensures .0), record-sized (sized .before .before .before .args .bytes .now) (sized .if1 .left))
+    (c .count .ensures .0, (made .clear-shorts .ensures .1, (c .count .ensures .1 .0, c .count .ensures .1 .1)))
 
 pub lp586x-clear-shorts-spec : {M : Type 1} → statement M
 lp586x-clear-shorts-spec =

@@ -38,7 +38,11 @@ same-length-2 c = search needs
 
 returns-2 : tie.Need-returns-2
 unfolding listAnswer listBytes bufferAfter
-returns-2 c = rw (← (c .before .before .before .before .before .before .before .before .before .before .before .before .before .load .ensures), ← (c .before .before .before .before .before .before .before .before .before .before .before .update .ensures .0), record-sized (c .before .before .before .before .before .before .before .before .before .before .before .before .before .before .before .before .before .before .args .bytes .now) (c .before .before .before .before .before .before .before .before .before .before .before .before .before .before .before .if1 .left)) (c .count .ensures .0, (c .before .before .before .before .before .before .before .keep .ensures, (c .before .before .before .before .before .before .before .before .before .before .before .update .ensures .1, (c .count .ensures .1 .0, (c .count .ensures .1 .1, c .before .before .before .put-needed .ensures)))))
+returns-2 c =
+    let made = c .before .before .before .before .before .before .before .before .before .before .before in
+    let sized = made .before .before .before .before in
+    rw (← (made .before .before .load .ensures), ← (made .update .ensures .0), record-sized (sized .before .before .before .args .bytes .now) (sized .if1 .left))
+    (c .count .ensures .0, (c .before .before .before .before .before .before .before .keep .ensures, (made .update .ensures .1, (c .count .ensures .1 .0, (c .count .ensures .1 .1, c .before .before .before .put-needed .ensures)))))
 
 pub lp586x-update-spec : {M : Type 1} → statement M
 lp586x-update-spec =

@@ -42,7 +42,9 @@ lp586x-reset-requires : tie.Need-lp586x-reset-requires
 lp586x-reset-requires c κs = search needs
 
 feed-requires : tie.Need-feed-requires
-feed-requires c κs = reset-room _ _ _ _ _ _ _ _ _ _ (c .before .before .before .before .before .before .before .before .lp586x-reset .kept .1 .0) (c .before .before .before .before .before .before .before .before .lp586x-reset .ensures)
+feed-requires c κs =
+    let made = c .before .before .before .before .before .before .before .before in
+    reset-room _ _ _ _ _ _ _ _ _ _ (made .lp586x-reset .kept .1 .0) (made .lp586x-reset .ensures)
 
 enum-told-3 : tie.Need-enum-told-3
 enum-told-3 c = search needs
@@ -60,7 +62,9 @@ lp586x-update-requires : tie.Need-lp586x-update-requires
 lp586x-update-requires c κs = search needs
 
 feed-requires-2 : tie.Need-feed-requires-2
-feed-requires-2 c κs = update-room _ _ _ _ _ _ _ _ _ _ (c .before .before .before .before .before .before .before .before .lp586x-update .kept .1 .0) _ _ (c .before .before .before .before .before .before .before .before .lp586x-update .ensures)
+feed-requires-2 c κs =
+    let made = c .before .before .before .before .before .before .before .before in
+    update-room _ _ _ _ _ _ _ _ _ _ (made .lp586x-update .kept .1 .0) _ _ (made .lp586x-update .ensures)
 
 same-length : tie.Need-same-length
 same-length c = search needs
@@ -105,7 +109,9 @@ same-length-9 : tie.Need-same-length-9
 same-length-9 c = search needs
 
 returns-6 : tie.Need-returns-6
-returns-6 c = reset-step _ _ _ _ _ _ _ _ _ _ _ _ (c .before .before .before .before .before .before .before .before .before .before .before .before .before .before .before .before .enum-told2 .given .1) (c .before .before .before .before .before .before .before .before .before .before .before .lp586x-reset .ensures) (c .before .before .feed .ensures)
+returns-6 c =
+    let made = c .before .before .before .before .before .before .before .before .before .before .before in
+    reset-step _ _ _ _ _ _ _ _ _ _ _ _ (made .before .before .before .before .before .enum-told2 .given .1) (made .lp586x-reset .ensures) (c .before .before .feed .ensures)
 
 same-length-10 : tie.Need-same-length-10
 same-length-10 c = search needs
@@ -114,7 +120,9 @@ same-length-11 : tie.Need-same-length-11
 same-length-11 c = search needs
 
 returns-7 : tie.Need-returns-7
-returns-7 c = power-lost-step _ _ _ _ _ _ _ _ _ (c .before .before .before .before .before .before .before .before .enum-told3 .given .1) (c .before .before .lp586x-power-lost .ensures) (c .before .before .before .before .before .before .lp586x-chip-power-lost .ensures .1)
+returns-7 c =
+    let lost = c .before .before .before .before .before .before in
+    power-lost-step _ _ _ _ _ _ _ _ _ (lost .before .before .enum-told3 .given .1) (c .before .before .lp586x-power-lost .ensures) (lost .lp586x-chip-power-lost .ensures .1)
 
 same-length-12 : tie.Need-same-length-12
 same-length-12 c = search needs
@@ -126,7 +134,9 @@ same-length-14 : tie.Need-same-length-14
 same-length-14 c = search needs
 
 returns-8 : tie.Need-returns-8
-returns-8 c = update-step _ _ _ _ _ _ _ _ _ _ _ _ _ (c .before .before .before .before .before .before .before .before .before .before .before .before .before .before .before .before .before .enum-told4 .given .1) (c .before .before .before .before .before .before .before .before .before .before .before .lp586x-update .ensures) (c .before .before .feed2 .ensures)
+returns-8 c =
+    let made = c .before .before .before .before .before .before .before .before .before .before .before in
+    update-step _ _ _ _ _ _ _ _ _ _ _ _ _ (made .before .before .before .before .before .before .enum-told4 .given .1) (made .lp586x-update .ensures) (c .before .before .feed2 .ensures)
 
 pub call-spec : {M : Type 1} → statement M
 call-spec =

@@ -1,6 +1,5 @@
 -- `panel::feed` meets its contract.
 -- Assumes nothing.
-use native.Mathlib.Omega.{arith}
 use borrow.Author.Needs.{needs}
 use Rattle.panel.proofs.Steps.{unfed, fed, list-length}
 use Rattle.panel.proofs.feed.Statement.{statement}
