@@ -69,7 +69,7 @@ settingNumber bytes x = answerNumber (whenSized (recordSized bytes) (x .answer))
 unfoldable pub settingBytes : List ℕ → Changed → List ℕ
 settingBytes bytes x = cond (accepted (whenSized (recordSized bytes) (x .answer))) (recordBytes (x .state)) bytes
 
--- both
+-- a setting's outcome
 abbrev pub settingOutcome : List ℕ → Changed → Outcome
 settingOutcome bytes x = record { answer = settingNumber bytes x; bytes = settingBytes bytes x }
 
@@ -81,7 +81,7 @@ chipNumber bytes answer = answerNumber (whenSized (chipSized bytes) answer)
 unfoldable pub chipAfter : List ℕ → Answer → Chip → List ℕ
 chipAfter bytes answer c = cond (accepted (whenSized (chipSized bytes) answer)) (chipBytes c) bytes
 
--- both
+-- its outcome
 abbrev pub chipOutcome : List ℕ → Answer → Chip → Outcome
 chipOutcome bytes answer c = record { answer = chipNumber bytes answer; bytes = chipAfter bytes answer c }
 
@@ -99,7 +99,8 @@ listBytes bytes x = cond (isListed (listAnswer bytes x)) (recordBytes (x .state)
 unfoldable pub bufferAfter : List ℕ → List ℕ → List ℕ → List ℕ
 bufferAfter bytes new old = cond (recordSized bytes) new old
 
--- an answer of this number stores its value at this place of document 01's numbers and values; all else leaves what stood there
+-- An answer of this number stores the value at this place of its number and values; any other leaves what stood there, as does a
+-- Reset's 10, which carries only its number.
 unfoldable pub stored : ℕ → ℕ → ListAnswer → ℕ → ℕ
 stored number place answer old = cond (eqb (listNumber answer) number) (getD (listNumbers answer) place old) old
 

@@ -20,7 +20,8 @@ use Rattle.panel.specs.PanelStep.{Panel, panelOf, panelStep}
 
 -- ---- Lists of calls
 
--- "each with any arguments and with bytes or a buffer of its own.", and with any n, t and needed where it may store them
+-- "each with any arguments and with bytes or a buffer of its own.", and with any n, t and needed where it may store them. The numbers
+-- are any, so those that a uint32_t holds are among them.
 pub record PanelCall : Type 0 where
   pub request : Request
   pub lent : List ℕ
@@ -34,7 +35,7 @@ abbrev pub panelStart : ℕ → ℕ → ℕ → Panel → Panel
 panelStart m b p memory = panelOf (openCall (memory .state) m b p .bytes) (chipAtResetCall (memory .chip) m b p .bytes)
 
 -- accepted: both answer 0
-pub record Opened (m b p : ℕ) (memory : Panel) : Type 0 where
+pub record PanelOpened (m b p : ℕ) (memory : Panel) : Type 0 where
   pub record-opened : openCall (memory .state) m b p .answer ≡ 0
   pub chip-opened : chipAtResetCall (memory .chip) m b p .answer ≡ 0
 
@@ -119,4 +120,4 @@ module _ (m b p : ℕ) (memory : Panel) where
 
 -- for every list of calls after every lp586x_open and lp586x_chip_at_reset that answer 0
 abbrev pub PanelWholeLists : Type 0
-PanelWholeLists = (m b p : ℕ) (memory : Panel) → Opened m b p memory → (calls : List PanelCall) → PanelDemand3 m b p memory calls
+PanelWholeLists = (m b p : ℕ) (memory : Panel) → PanelOpened m b p memory → (calls : List PanelCall) → PanelDemand3 m b p memory calls

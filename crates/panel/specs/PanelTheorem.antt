@@ -29,12 +29,12 @@ use Rattle.capi.specs.CapiLaws.{record-sized, chip-sized, record-length, chip-l
 use Rattle.capi.specs.CallLaws.{listOutcomeOf, open-accepted, open-bytes, at-reset-bytes, update-call, feed-call}
 use Rattle.panel.specs.declared.Request.the-variants.{Update}
 use Rattle.panel.specs.PanelStep.{Panel, panelOf}
-use Rattle.panel.specs.PanelHistory.{PanelCall, panelStart, Opened, panelRun, panelAfter, callOf, panelLedger, registersIn, PanelRival, listOf, updateAfter, PanelUpdates, PanelLastUpdate, PanelWholeLists}
+use Rattle.panel.specs.PanelHistory.{PanelCall, panelStart, PanelOpened, panelRun, panelAfter, callOf, panelLedger, registersIn, PanelRival, listOf, updateAfter, PanelUpdates, PanelLastUpdate, PanelWholeLists}
 use Rattle.panel.specs.PanelLaws.{bytesOf, Whole, whole, run-bytes}
 
 -- any memory of the two sizes serves, with any member, bus and pins that Open takes
 pub opened-by : (m b p : ℕ) (memory : Panel) → length (memory .state) ≡ 1819 → length (memory .chip) ≡ 911 → accepted (openOf m b p .answer) ≡ true →
-    Opened m b p memory
+    PanelOpened m b p memory
 unfolding settingNumber chipNumber whenSized openOf atResetOf
 opened-by m b p memory hr hc e = record {
   record-opened = rw (record-sized (memory .state) hr) (accepted-zero (openAnswer m b p) e);
@@ -76,7 +76,7 @@ map-join : (xs ys : List PanelCall) → map callOf (xs ++ ys) ≡ map callOf xs 
 map-join [] ys = refl
 map-join (x ∷ xs) ys = ap (λ (l : List Call). callOf x ∷ l) (map-join xs ys)
 
-module _ (m b p : ℕ) (memory : Panel) (o : Opened m b p memory) where
+module _ (m b p : ℕ) (memory : Panel) (o : PanelOpened m b p memory) where
   pub opened : accepted (openOf m b p .answer) ≡ true
   opened = open-accepted m b p (memory .state) (o .record-opened)
 
