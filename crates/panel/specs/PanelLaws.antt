@@ -1,12 +1,12 @@
 -- One call on the bytes of a world leaves the bytes of the world after that call, one lemma for each call, and so does any list of
--- calls.
+-- calls. It also answers the number of that call, and leaves the lent bytes as that call does.
 -- Assumes nothing.
 use mathlib.Core.Path.{_≡_, refl, ap, ap₂, _∙_}
 use mathlib.Core.Bool.{true, false≢true}
 use mathlib.Core.List.{List, [], _∷_, map}
 use Prim.Native.Nat.{ℕ}
 use borrow.Author.Tests.{ne-eqb}
-use lib.ListN.{length}
+use lib.ListN.{length, getD}
 use Rattle.map.specs.Refusals.{opens}
 use Rattle.host.specs.declared.Record.{Record}
 use Rattle.host.specs.declared.Changed.{Changed}
@@ -18,7 +18,7 @@ use Rattle.update.specs.Update.{listNumber, updateOf, updateBuffer, chipResetOf
 use Rattle.chip.specs.Chip.{feedOf}
 use Rattle.history.specs.declared.World.{World}
 use Rattle.history.specs.Ledger.{entry}
-use Rattle.history.specs.Step.{listIn, fedBy, stepOf}
+use Rattle.history.specs.Step.{callNumbers, listIn, fedBy, stepOf, lentAfter}
 use Rattle.history.specs.History.{run}
 use Rattle.history.specs.WorldLaws.{Holds, step-holds}
 use Rattle.capi.specs.Capi.{recordBytes, chipBytes, stored, nAfter, tAfter, Outcome, ListOutcome}
@@ -111,6 +111,31 @@ module _ (w : World) (whole : Whole w) (lent : List ℕ) (n t needed : ℕ) wher
   step-bytes Reset = reset-bytes
   step-bytes PowerLost = power-lost-bytes
   step-bytes Update = update-bytes
+
+  -- ---- what the call answers, and the bytes that were lent
+
+  -- it answers the number of the call by value
+  pub step-answers : (request : Request) →
+      panelStep (bytesOf w) request lent n t needed .answer ≡ getD (callNumbers (stepOf w (requestOf request) lent .answer)) 0 0
+  step-answers (Register a v) = ap (λ (x : Outcome). x .answer) (register-call r (whole .settings) (whole .image) a v)
+  step-answers (Lamp l s v) = ap (λ (x : Outcome). x .answer) (lamp-call r (whole .settings) (whole .image) l s v)
+  step-answers (Group l s g) = ap (λ (x : Outcome). x .answer) (group-call r (whole .settings) (whole .image) l s g)
+  step-answers (Switch l s v) = ap (λ (x : Outcome). x .answer) (switch-call r (whole .settings) (whole .image) l s v)
+  step-answers Scene = ap (λ (x : Outcome). x .answer) (scene-call r (whole .settings) (whole .image) lent)
+  step-answers Reset = ap (λ (x : ListOutcome). x .answer) (reset-call r (whole .settings) (whole .image) lent n t)
+  step-answers PowerLost = ap (λ (x : Outcome). x .answer) (power-lost-call r (whole .settings) (whole .image))
+  step-answers Update = ap (λ (x : ListOutcome). x .answer) (update-call r (whole .settings) (whole .image) lent n t)
+
+  -- and leaves the lent bytes as that call does
+  pub step-lent : (request : Request) → panelStep (bytesOf w) request lent n t needed .lent ≡ lentAfter w (requestOf request) lent
+  step-lent (Register a v) = refl
+  step-lent (Lamp l s v) = refl
+  step-lent (Group l s g) = refl
+  step-lent (Switch l s x) = refl
+  step-lent Scene = refl
+  step-lent Reset = ap (λ (x : ListOutcome). x .buffer) (reset-call r (whole .settings) (whole .image) lent n t)
+  step-lent PowerLost = refl
+  step-lent Update = ap (λ (x : ListOutcome). x .buffer) (update-call r (whole .settings) (whole .image) lent n t)
 
 -- ---- any list of calls
 
