@@ -1,11 +1,11 @@
 -- What a call answers and stores, once the calls on values are done.
 -- Assumes nothing.
-use mathlib.Core.Path.{_≡_, refl, ap, subst, _∙_}
+use mathlib.Core.Path.{_≡_, refl, sym, ap, subst, _∙_}
 use mathlib.Core.Bool.{Bool, true, false, cond}
 use mathlib.Core.List.{List}
 use Prim.Native.Nat.{ℕ, _≤_}
 use native.Mathlib.Omega.{arith}
-use borrow.Author.Tests.{eq-eqb, ne-eqb, le-ltb}
+use borrow.Author.Tests.{le-ltb}
 use lib.Dec.{leb}
 use lib.ListN.{length}
 use mir.Val.{boolByte}
@@ -30,15 +30,8 @@ use Rattle.update.specs.BoundLaws.{bus-most, writes-few, size-most}
 use Rattle.chip.specs.declared.Chip.{Chip}
 use Rattle.chip.specs.declared.Fed.{Fed}
 use Rattle.chip.specs.Chip.{feedOf}
-use Rattle.capi.specs.Capi.{recordBytes, chipBytes, recordSized, chipSized, whenSized, settingNumber, settingBytes, chipNumber, chipAfter, nAfter, tAfter, neededAfter, Fits}
-
-pub record-sized : (bytes : List ℕ) → length bytes ≡ 1819 → recordSized bytes ≡ true
-unfolding recordSized
-record-sized bytes h = eq-eqb (length bytes) 1819 h
-
-pub record-unsized : (bytes : List ℕ) → (length bytes ≡ 1819 → ⊥) → recordSized bytes ≡ false
-unfolding recordSized
-record-unsized bytes n = ne-eqb (length bytes) 1819 n
+use Rattle.capi.specs.Capi.{recordBytes, chipBytes, whenSized, settingNumber, settingBytes, chipNumber, chipAfter, stored, nAfter, tAfter, neededAfter, Fits}
+use Rattle.capi.specs.CapiLaws.{record-sized, record-unsized, chip-sized, chip-unsized, refused-stores}
 
 -- ---- settings
 
@@ -46,9 +39,9 @@ module _ (bytes : List ℕ) (x : Changed) where
   abbrev pub Settled : ℕ → List ℕ → Type 0
   Settled number new = (number ≡ settingNumber bytes x) × (new ≡ settingBytes bytes x)
 
-  pub setting-unsized : (length bytes ≡ 1819 → ⊥) → Settled 14 bytes
+  pub setting-unsized : (number : ℕ) → (length bytes ≡ 1819 → ⊥) → number ≡ refusalNumber Unsound → Settled number bytes
   unfolding settingNumber settingBytes whenSized
-  setting-unsized n = (rw (record-unsized bytes n) refl, rw (record-unsized bytes n) refl)
+  setting-unsized number n e = (rw (record-unsized bytes n) e, rw (record-unsized bytes n) refl)
 
   pub setting-accepted : (new : List ℕ) → length bytes ≡ 1819 → x .answer ≡ answers.the-variants.Accepted → new ≡ recordBytes (x .state) → Settled 0 new
   unfolding settingNumber settingBytes whenSized
@@ -91,21 +84,13 @@ module _ (r : Record) (a v : ℕ) where
 
 -- ---- chips
 
-chip-sized : (bytes : List ℕ) → length bytes ≡ 911 → chipSized bytes ≡ true
-unfolding chipSized
-chip-sized bytes h = eq-eqb (length bytes) 911 h
-
-chip-unsized : (bytes : List ℕ) → (length bytes ≡ 911 → ⊥) → chipSized bytes ≡ false
-unfolding chipSized
-chip-unsized bytes n = ne-eqb (length bytes) 911 n
-
 module _ (bytes : List ℕ) (answer : Answer) (c : Chip) where
   abbrev pub ChipSettled : ℕ → List ℕ → Type 0
   ChipSettled number new = (number ≡ chipNumber bytes answer) × (new ≡ chipAfter bytes answer c)
 
-  pub chip-wrong : (length bytes ≡ 911 → ⊥) → ChipSettled 14 bytes
+  pub chip-wrong : (number : ℕ) → (length bytes ≡ 911 → ⊥) → number ≡ refusalNumber Unsound → ChipSettled number bytes
   unfolding chipNumber chipAfter whenSized
-  chip-wrong n = (rw (chip-unsized bytes n) refl, rw (chip-unsized bytes n) refl)
+  chip-wrong number n e = (rw (chip-unsized bytes n) e, rw (chip-unsized bytes n) refl)
 
   pub chip-accepted : (new : List ℕ) → length bytes ≡ 911 → answer ≡ answers.the-variants.Accepted → new ≡ chipBytes c → ChipSettled 0 new
   unfolding chipNumber chipAfter whenSized
@@ -164,16 +149,26 @@ abbrev pub Counted : ListAnswer → ℕ → ℕ → ℕ → ℕ → ℕ → Type
 Counted answer n t number new-n new-t = (number ≡ listNumber answer) × ((new-n ≡ nAfter answer n) × (new-t ≡ tAfter answer t))
 
 pub counted-listed : (answer : ListAnswer) (n t new-n new-t : ℕ) → answer ≡ Listed new-n new-t → Counted answer n t 0 new-n new-t
+unfolding stored
 counted-listed answer n t new-n new-t e = rw e (refl, (refl, refl))
 
 pub counted-short : (answer : ListAnswer) (n t number needed : ℕ) → answer ≡ Short needed → number ≡ refusalNumber BufferShort → Counted answer n t number n t
+unfolding stored
 counted-short answer n t number needed e h = rw e (h, (refl, refl))
 
 pub counted-refused : (answer : ListAnswer) (n t number : ℕ) (refusal : Refusal) → answer ≡ Refused refusal → number ≡ refusalNumber refusal → Counted answer n t number n t
-counted-refused answer n t number refusal e h = rw e (h, (refl, refl))
+counted-refused answer n t number refusal e h = rw e (h, (sym (refused-stores 0 0 refusal n), sym (refused-stores 0 1 refusal t)))
+
+pub needed-listed : (answer : ListAnswer) (needed n t : ℕ) → answer ≡ Listed n t → needed ≡ neededAfter answer needed
+unfolding stored
+needed-listed answer needed n t e = rw e refl
 
 pub needed-short : (answer : ListAnswer) (needed new : ℕ) → answer ≡ Short new → new ≡ neededAfter answer needed
+unfolding stored
 needed-short answer needed new e = rw e refl
+
+pub needed-refused : (answer : ListAnswer) (needed : ℕ) (refusal : Refusal) → answer ≡ Refused refusal → needed ≡ neededAfter answer needed
+needed-refused answer needed refusal e = rw e (sym (refused-stores (refusalNumber BufferShort) 0 refusal needed))
 
 pub kept-listed : (bytes new : List ℕ) (x : Updated) (n t : ℕ) → x .answer ≡ Listed n t → new ≡ recordBytes (x .state) →
     new ≡ cond (isListed (x .answer)) (recordBytes (x .state)) bytes

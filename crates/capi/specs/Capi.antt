@@ -8,15 +8,15 @@ use lib.Dec.{eqb}
 use lib.ListN.{length, getD, take, drop}
 use Rattle.map.specs.declared.refusals.Answer.{Answer}
 use Rattle.map.specs.declared.refusals.Answer as answers
-use Rattle.map.specs.declared.refusals.Refusal.the-variants.{Unsound}
-use Rattle.map.specs.Refusals.{answerNumber, accepted}
+use Rattle.map.specs.declared.refusals.Refusal.the-variants.{BufferShort, Unsound}
+use Rattle.map.specs.Refusals.{refusalNumber, answerNumber, accepted}
 use Rattle.host.specs.declared.Record.{Record}
 use Rattle.host.specs.declared.Changed.{Changed}
 use Rattle.host.specs.Record.{recordOf}
 use Rattle.update.specs.declared.ListAnswer.{ListAnswer}
 use Rattle.update.specs.declared.ListAnswer.the-variants.{Listed, Short, Refused}
 use Rattle.update.specs.declared.Updated.{Updated}
-use Rattle.update.specs.Update.{isListed}
+use Rattle.update.specs.Update.{listNumbers, listNumber, isListed}
 use Rattle.chip.specs.declared.Chip.{Chip}
 use Rattle.chip.specs.Chip.{chipOf}
 
@@ -56,6 +56,11 @@ chipSized bytes = eqb (length bytes) 911
 unfoldable pub whenSized : Bool → Answer → Answer
 whenSized sized answer = cond sized answer (answers.the-variants.Refused Unsound)
 
+-- what such a call answers, and the bytes of the record or chip as it leaves them
+pub record Outcome : Type 0 where
+  pub answer : ℕ
+  pub bytes : List ℕ
+
 -- "Every call answers 0 where it was accepted, or the number of its refusal"
 unfoldable pub settingNumber : List ℕ → Changed → ℕ
 settingNumber bytes x = answerNumber (whenSized (recordSized bytes) (x .answer))
@@ -64,6 +69,10 @@ settingNumber bytes x = answerNumber (whenSized (recordSized bytes) (x .answer))
 unfoldable pub settingBytes : List ℕ → Changed → List ℕ
 settingBytes bytes x = cond (accepted (whenSized (recordSized bytes) (x .answer))) (recordBytes (x .state)) bytes
 
+-- a setting's outcome
+abbrev pub settingOutcome : List ℕ → Changed → Outcome
+settingOutcome bytes x = record { answer = settingNumber bytes x; bytes = settingBytes bytes x }
+
 -- the same number of a call on a chip
 unfoldable pub chipNumber : List ℕ → Answer → ℕ
 chipNumber bytes answer = answerNumber (whenSized (chipSized bytes) answer)
@@ -71,6 +80,10 @@ chipNumber bytes answer = answerNumber (whenSized (chipSized bytes) answer)
 -- the same bytes of a chip
 unfoldable pub chipAfter : List ℕ → Answer → Chip → List ℕ
 chipAfter bytes answer c = cond (accepted (whenSized (chipSized bytes) answer)) (chipBytes c) bytes
+
+-- its outcome
+abbrev pub chipOutcome : List ℕ → Answer → Chip → Outcome
+chipOutcome bytes answer c = record { answer = chipNumber bytes answer; bytes = chipAfter bytes answer c }
 
 -- ---- Calls that write a list
 
@@ -86,23 +99,40 @@ listBytes bytes x = cond (isListed (listAnswer bytes x)) (recordBytes (x .state)
 unfoldable pub bufferAfter : List ℕ → List ℕ → List ℕ → List ℕ
 bufferAfter bytes new old = cond (recordSized bytes) new old
 
+-- An answer of this number stores the value at this place of its number and values; any other leaves what stood there, as does a
+-- Reset's 10, which carries only its number.
+unfoldable pub stored : ℕ → ℕ → ListAnswer → ℕ → ℕ
+stored number place answer old = cond (eqb (listNumber answer) number) (getD (listNumbers answer) place old) old
+
 -- "0 stores n and t": n
 abbrev pub nAfter : ListAnswer → ℕ → ℕ
-nAfter (Listed n t) old = n
-nAfter (Short needed) old = old
-nAfter (Refused refusal) old = old
+nAfter answer old = stored 0 1 answer old
 
 -- "0 stores n and t": t
 abbrev pub tAfter : ListAnswer → ℕ → ℕ
-tAfter (Listed n t) old = t
-tAfter (Short needed) old = old
-tAfter (Refused refusal) old = old
+tAfter answer old = stored 0 2 answer old
 
 -- "10 stores the length needed."
 abbrev pub neededAfter : ListAnswer → ℕ → ℕ
-neededAfter (Listed n t) old = old
-neededAfter (Short needed) old = needed
-neededAfter (Refused refusal) old = old
+neededAfter answer old = stored (refusalNumber BufferShort) 1 answer old
+
+-- what such a call answers, and what it leaves: the bytes of the record, the buffer, n and t
+pub record ListOutcome : Type 0 where
+  pub answer : ℕ
+  pub bytes : List ℕ
+  pub buffer : List ℕ
+  pub n : ℕ
+  pub t : ℕ
+
+-- by what the call on the record gives back, x, and the buffer as that call leaves it, new
+abbrev pub listOutcome : List ℕ → Updated → List ℕ → List ℕ → ℕ → ℕ → ListOutcome
+listOutcome bytes x new buffer n t = record {
+  answer = listNumber (listAnswer bytes x);
+  bytes = listBytes bytes x;
+  buffer = bufferAfter bytes new buffer;
+  n = nAfter (listAnswer bytes x) n;
+  t = tAfter (listAnswer bytes x) t;
+}
 
 -- every value of an answer fits the 32 bits that it is stored in
 abbrev pub Fits : ListAnswer → Type 0

@@ -1,11 +1,13 @@
--- Laws of the C interface: records and chips read back from their bytes, and what a refused call leaves.
+-- Laws of the C interface: records and chips read back from their bytes, what a refused call leaves, and what 0 stores.
 -- Assumes nothing.
 use mathlib.Core.Path.{_≡_, refl, sym, ap, _∙_}
-use mathlib.Core.Bool.{Bool, true, false, cond}
+use mathlib.Core.Bool.{Bool, true, false, cond, false≢true}
 use mathlib.Core.List.{List, [], _∷_, _++_}
-use Prim.Native.Nat.{ℕ, _≤_}
+use Prim.Native.Nat.{ℕ, suc, _≤_}
 use native.Mathlib.Omega.{arith}
-use lib.ListN.{length, getD, take, drop, length-drop, take-append-drop}
+use borrow.Author.Tests.{eq-eqb, ne-eqb}
+use lib.Dec.{eqb}
+use lib.ListN.{length, getD, take, drop, length-append, length-drop, take-append-drop}
 use lib.Seq.{take-all, take-at, drop-at, drop-drop}
 use Rattle.map.specs.declared.refusals.Answer.{Answer}
 use Rattle.map.specs.declared.refusals.Answer as answers
@@ -18,11 +20,11 @@ use Rattle.host.specs.Record.{recordOf}
 use Rattle.update.specs.declared.ListAnswer.{ListAnswer}
 use Rattle.update.specs.declared.ListAnswer.the-variants.{Listed, Short, Refused}
 use Rattle.update.specs.declared.Updated.{Updated}
-use Rattle.update.specs.Update.{isListed, listNumber, updateAnswer, updateOf, updateBuffer, commandAnswer, commandBuffer, chipResetOf, resetBuffer, clearOf, clearOpensBuffer, clearShortsBuffer}
+use Rattle.update.specs.Update.{isListed, listNumber}
 use Rattle.chip.specs.declared.Chip.{Chip}
 use Rattle.chip.specs.Chip.{chipOf}
 use Rattle.faults.specs.Faults.{answered, answerNumbers, faultsChecked, faultsAnswer, faultsResult, opensAgree, shortsAgree}
-use Rattle.capi.specs.Capi.{imageAt, recordIn, recordBytes, chipIn, chipBytes, recordSized, chipSized, whenSized, settingNumber, settingBytes, chipNumber, chipAfter, listAnswer, listBytes, bufferAfter, nAfter, tAfter, neededAfter}
+use Rattle.capi.specs.Capi.{imageAt, recordIn, recordBytes, chipIn, chipBytes, recordSized, chipSized, whenSized, settingNumber, settingBytes, chipNumber, chipAfter, listAnswer, listBytes, stored, nAfter, tAfter, neededAfter}
 
 -- ---- the bytes read back
 
@@ -62,6 +64,34 @@ pub chip-back : (c : Chip) → length (c .registers) ≡ 908 → chipIn (chipByt
 unfolding chipIn chipBytes
 chip-back c h = ap (λ (l : List ℕ). chipOf (c .member) (c .bus) (c .pins) l) (take-all 908 (c .registers) (omega arith))
 
+-- ---- sizes
+
+pub record-sized : (bytes : List ℕ) → length bytes ≡ 1819 → recordSized bytes ≡ true
+unfolding recordSized
+record-sized bytes h = eq-eqb (length bytes) 1819 h
+
+pub record-unsized : (bytes : List ℕ) → (length bytes ≡ 1819 → ⊥) → recordSized bytes ≡ false
+unfolding recordSized
+record-unsized bytes n = ne-eqb (length bytes) 1819 n
+
+pub chip-sized : (bytes : List ℕ) → length bytes ≡ 911 → chipSized bytes ≡ true
+unfolding chipSized
+chip-sized bytes h = eq-eqb (length bytes) 911 h
+
+pub chip-unsized : (bytes : List ℕ) → (length bytes ≡ 911 → ⊥) → chipSized bytes ≡ false
+unfolding chipSized
+chip-unsized bytes n = ne-eqb (length bytes) 911 n
+
+-- a record with whole images has the size of a record
+pub record-length : (r : Record) → length (r .settings) ≡ 908 → length (r .image) ≡ 908 → length (recordBytes r) ≡ 1819
+unfolding recordBytes
+record-length r hs hi = omega (arith, length-append (r .settings) (r .image))
+
+-- and a chip that of a chip
+pub chip-length : (c : Chip) → length (c .registers) ≡ 908 → length (chipBytes c) ≡ 911
+unfolding chipBytes
+chip-length c h = omega (arith, h)
+
 -- ---- 0 is acceptance alone
 
 -- no refusal has the number 0
@@ -80,6 +110,11 @@ refusal-some ListSizes e = omega arith
 refusal-some FaultLength e = omega arith
 refusal-some Unsound e = omega arith
 
+-- an accepted call answers 0
+pub accepted-zero : (answer : Answer) → accepted answer ≡ true → answerNumber answer ≡ 0
+accepted-zero answers.the-variants.Accepted e = refl
+accepted-zero (answers.the-variants.Refused x) e = absurd (false≢true e)
+
 -- a call that answers 0 was accepted
 pub zero-accepted : (answer : Answer) → answerNumber answer ≡ 0 → accepted answer ≡ true
 zero-accepted answers.the-variants.Accepted e = refl
@@ -91,7 +126,7 @@ zero-listed (Listed n t) e = refl
 zero-listed (Short needed) e = absurd (omega arith)
 zero-listed (Refused x) e = absurd (refusal-some x e)
 
--- ---- "A refused call changes no byte that was lent to it"
+-- ---- "A refused call changes no byte that was lent to it": calls that answer a number alone
 
 answer-keeps : (answer : Answer) (new old : List ℕ) → (answerNumber answer ≡ 0 → ⊥) → cond (accepted answer) new old ≡ old
 answer-keeps answers.the-variants.Accepted new old n = absurd (n refl)
@@ -107,7 +142,23 @@ pub chip-keeps : (bytes : List ℕ) (answer : Answer) (c : Chip) → (chipNumber
 unfolding chipNumber chipAfter
 chip-keeps bytes answer c n = answer-keeps (whenSized (chipSized bytes) answer) (chipBytes c) bytes n
 
--- ---- calls that write a list
+-- ---- what a list's answer stores
+
+-- a refusal carries only its number, so that there is nothing to store
+pub refused-stores : (number place : ℕ) (x : Refusal) (old : ℕ) → stored number (suc place) (Refused x) old ≡ old
+unfolding stored
+refused-stores number place x old = same (eqb (refusalNumber x) number)
+  where
+    same : (b : Bool) → cond b old old ≡ old
+    same true = refl
+    same false = refl
+
+-- an answer of 0 is a list with the n and t that are stored
+pub zero-stores : (answer : ListAnswer) (n t : ℕ) → listNumber answer ≡ 0 → answer ≡ Listed (nAfter answer n) (tAfter answer t)
+unfolding stored
+zero-stores (Listed k u) n t e = refl
+zero-stores (Short needed) n t e = absurd (omega arith)
+zero-stores (Refused x) n t e = absurd (refusal-some x e)
 
 -- a list's answer that is no list leaves n, t and what depends on it
 pub record Kept (answer : ListAnswer) : Type 0 where
@@ -116,47 +167,22 @@ pub record Kept (answer : ListAnswer) : Type 0 where
   pub unlisted : isListed answer ≡ false
 
 pub list-keeps : (answer : ListAnswer) → (listNumber answer ≡ 0 → ⊥) → Kept answer
+unfolding stored
 list-keeps (Listed n t) z = absurd (z refl)
 list-keeps (Short needed) z = record { n-stays = λ n. refl; t-stays = λ t. refl; unlisted = refl }
-list-keeps (Refused x) z = record { n-stays = λ n. refl; t-stays = λ t. refl; unlisted = refl }
+list-keeps (Refused x) z = record { n-stays = λ n. refused-stores 0 0 x n; t-stays = λ t. refused-stores 0 1 x t; unlisted = refl }
 
 -- "10 of lp586x_update alone stores the length needed"
-pub needed-keeps : (answer : ListAnswer) (needed : ℕ) → (listNumber answer ≡ 10 → ⊥) → neededAfter answer needed ≡ needed
+pub needed-keeps : (answer : ListAnswer) (needed : ℕ) → (listNumber answer ≡ refusalNumber BufferShort → ⊥) → neededAfter answer needed ≡ needed
+unfolding stored
 needed-keeps (Listed n t) needed z = refl
 needed-keeps (Short size) needed z = absurd (z refl)
-needed-keeps (Refused x) needed z = refl
+needed-keeps (Refused x) needed z = refused-stores (refusalNumber BufferShort) 0 x needed
 
 -- the record stays
 pub bytes-keep : (bytes : List ℕ) (x : Updated) → (listNumber (listAnswer bytes x) ≡ 0 → ⊥) → listBytes bytes x ≡ bytes
 unfolding listBytes
 bytes-keep bytes x z = rw (list-keeps (listAnswer bytes x) z .unlisted) refl
-
-module _ (bytes buffer : List ℕ) where
-  lent-keeps : (sized : Bool) (answer : ListAnswer) (new : List ℕ) → (listNumber (cond sized answer (Refused Unsound)) ≡ 0 → ⊥) →
-      cond sized (cond (isListed answer) new buffer) buffer ≡ buffer
-  lent-keeps false answer new z = refl
-  lent-keeps true answer new z = rw (list-keeps answer z .unlisted) refl
-
-  -- the buffer stays
-  pub update-buffer-keeps : (listNumber (listAnswer bytes (updateOf (recordIn bytes) (length buffer))) ≡ 0 → ⊥) →
-      bufferAfter bytes (updateBuffer (recordIn bytes) buffer) buffer ≡ buffer
-  unfolding listAnswer bufferAfter updateOf updateBuffer
-  update-buffer-keeps z = lent-keeps (recordSized bytes) (updateAnswer (recordIn bytes) (length buffer)) _ z
-
-  command-buffer-keeps : (a v : ℕ) → (listNumber (cond (recordSized bytes) (commandAnswer (recordIn bytes) (length buffer)) (Refused Unsound)) ≡ 0 → ⊥) →
-      bufferAfter bytes (commandBuffer (recordIn bytes) a v buffer) buffer ≡ buffer
-  unfolding bufferAfter commandBuffer
-  command-buffer-keeps a v z = lent-keeps (recordSized bytes) (commandAnswer (recordIn bytes) (length buffer)) _ z
-
-  pub reset-buffer-keeps : (listNumber (listAnswer bytes (chipResetOf (recordIn bytes) (length buffer))) ≡ 0 → ⊥) →
-      bufferAfter bytes (resetBuffer (recordIn bytes) buffer) buffer ≡ buffer
-  unfolding listAnswer chipResetOf
-  reset-buffer-keeps z = command-buffer-keeps 0x0A9 0xFF z
-
-  pub clear-buffers-keep : (listNumber (listAnswer bytes (clearOf (recordIn bytes) (length buffer))) ≡ 0 → ⊥) →
-      (bufferAfter bytes (clearOpensBuffer (recordIn bytes) buffer) buffer ≡ buffer) × (bufferAfter bytes (clearShortsBuffer (recordIn bytes) buffer) buffer ≡ buffer)
-  unfolding listAnswer clearOf
-  clear-buffers-keep z = (command-buffer-keeps 0x0A7 0x0F z, command-buffer-keeps 0x0A8 0x0F z)
 
 -- ---- Faults
 

@@ -1,3 +1,4 @@
 pub mod Capi
+pub mod Calls
 pub mod CapiLaws
-pub mod NextLaws
+pub mod CallLaws

@@ -3,6 +3,8 @@ ghost use mathlib.Core.Path.{_≡_};
 ghost use mathlib.Core.Bool.{cond};
 ghost use Prim.Native.Nat.{ℕ, _≤_};
 ghost use lib.ListN.{length};
+ghost use Rattle.map.specs.declared.refusals.Refusal.the-variants.{Unsound};
+ghost use Rattle.map.specs.Refusals.{refusalNumber};
 ghost use Rattle.update.specs.Update.{isListed, listNumber};
 ghost use Rattle.host.specs.Record.{registerAnswer, registerOf};
 ghost use Rattle.capi.specs.Capi.{recordBytes, settingNumber, settingBytes, chipNumber, chipAfter, nAfter, tAfter, neededAfter, Fits};
@@ -14,6 +16,13 @@ use map::Answer;
 use map::Refusal;
 use update::ListAnswer;
 use update::Updated;
+
+// The answer to bytes of another size: that of an unsound record.
+pub(crate) fn wrong_size() -> u32
+    ensures { λ r. ⌜ r ≡ refusalNumber Unsound ⌝ }
+{
+    map::refusal_number(Refusal::Unsound) as u32
+}
 
 // A setting: its number, and its record where it is accepted.
 pub(crate) fn settle(bytes: &mut [u8], changed: Changed) -> u32

@@ -7,27 +7,20 @@ mod answers;
 mod records;
 
 ghost use mathlib.Core.Path.{_≡_};
-ghost use lib.ListN.{length, getD};
-ghost use Rattle.map.specs.declared.refusals.Answer.the-variants.{Accepted};
-ghost use Rattle.host.specs.Record.{openOf, registerOf, lampOf, groupOf, switchOf, sceneOf, powerLostOf};
-ghost use Rattle.update.specs.Update.{listNumber, updateOf, updateBuffer, chipResetOf, resetBuffer, clearOf, clearOpensBuffer, clearShortsBuffer};
-ghost use Rattle.chip.specs.Chip.{atResetOf, feedOf};
+ghost use lib.ListN.{getD};
 ghost use Rattle.faults.specs.Faults.{answerNumbers, faultsAnswer, faultsResult};
-ghost use Rattle.capi.specs.Capi.{recordIn, chipIn, settingNumber, settingBytes, chipNumber, chipAfter, listAnswer, listBytes, bufferAfter, nAfter, tAfter, neededAfter};
+ghost use Rattle.capi.specs.Calls.{openCall, registerCall, lampCall, groupCall, switchCall, sceneCall, powerLostCall, updateCall, updateNeeded, resetCall, clearOpensCall, clearShortsCall, chipAtResetCall, chipPowerLostCall, chipFeedCall};
 use map::Answer;
-
-// The answer to bytes of another size.
-const WRONG_SIZE: u32 = 14;
 
 // ---- The record and its settings
 
 #[no_mangle]
 pub extern "C" fn lp586x_open(bytes: &mut [u8], member: u32, bus: u32, pins: u32) -> u32
-    ensures { λ r. ⌜ r ≡ settingNumber (now (bytes .entry)) (openOf member bus pins) ⌝ }
-    ensures { λ _. ⌜ now (bytes .exit) ≡ settingBytes (now (bytes .entry)) (openOf member bus pins) ⌝ }
+    ensures { λ r. ⌜ r ≡ openCall (now (bytes .entry)) member bus pins .answer ⌝ }
+    ensures { λ _. ⌜ now (bytes .exit) ≡ openCall (now (bytes .entry)) member bus pins .bytes ⌝ }
 {
     if bytes.len() != records::RECORD_SIZE {
-        return WRONG_SIZE;
+        return answers::wrong_size();
     }
     let changed = host::open(member as usize, bus as usize, pins as usize);
     answers::settle(bytes, changed)
@@ -35,11 +28,11 @@ pub extern "C" fn lp586x_open(bytes: &mut [u8], member: u32, bus: u32, pins: u32
 
 #[no_mangle]
 pub extern "C" fn lp586x_register(bytes: &mut [u8], address: u32, value: u32) -> u32
-    ensures { λ r. ⌜ r ≡ settingNumber (now (bytes .entry)) (registerOf (recordIn (now (bytes .entry))) address value) ⌝ }
-    ensures { λ _. ⌜ now (bytes .exit) ≡ settingBytes (now (bytes .entry)) (registerOf (recordIn (now (bytes .entry))) address value) ⌝ }
+    ensures { λ r. ⌜ r ≡ registerCall (now (bytes .entry)) address value .answer ⌝ }
+    ensures { λ _. ⌜ now (bytes .exit) ≡ registerCall (now (bytes .entry)) address value .bytes ⌝ }
 {
     if bytes.len() != records::RECORD_SIZE {
-        return WRONG_SIZE;
+        return answers::wrong_size();
     }
     let r = records::load(bytes);
     let changed = answers::register(r, address as usize, value);
@@ -48,11 +41,11 @@ pub extern "C" fn lp586x_register(bytes: &mut [u8], address: u32, value: u32) ->
 
 #[no_mangle]
 pub extern "C" fn lp586x_lamp(bytes: &mut [u8], line: u32, sink: u32, level: u32) -> u32
-    ensures { λ r. ⌜ r ≡ settingNumber (now (bytes .entry)) (lampOf (recordIn (now (bytes .entry))) line sink level) ⌝ }
-    ensures { λ _. ⌜ now (bytes .exit) ≡ settingBytes (now (bytes .entry)) (lampOf (recordIn (now (bytes .entry))) line sink level) ⌝ }
+    ensures { λ r. ⌜ r ≡ lampCall (now (bytes .entry)) line sink level .answer ⌝ }
+    ensures { λ _. ⌜ now (bytes .exit) ≡ lampCall (now (bytes .entry)) line sink level .bytes ⌝ }
 {
     if bytes.len() != records::RECORD_SIZE {
-        return WRONG_SIZE;
+        return answers::wrong_size();
     }
     let r = records::load(bytes);
     let changed = host::lamp(r, line as usize, sink as usize, level as usize);
@@ -61,11 +54,11 @@ pub extern "C" fn lp586x_lamp(bytes: &mut [u8], line: u32, sink: u32, level: u32
 
 #[no_mangle]
 pub extern "C" fn lp586x_group(bytes: &mut [u8], line: u32, sink: u32, group: u32) -> u32
-    ensures { λ r. ⌜ r ≡ settingNumber (now (bytes .entry)) (groupOf (recordIn (now (bytes .entry))) line sink group) ⌝ }
-    ensures { λ _. ⌜ now (bytes .exit) ≡ settingBytes (now (bytes .entry)) (groupOf (recordIn (now (bytes .entry))) line sink group) ⌝ }
+    ensures { λ r. ⌜ r ≡ groupCall (now (bytes .entry)) line sink group .answer ⌝ }
+    ensures { λ _. ⌜ now (bytes .exit) ≡ groupCall (now (bytes .entry)) line sink group .bytes ⌝ }
 {
     if bytes.len() != records::RECORD_SIZE {
-        return WRONG_SIZE;
+        return answers::wrong_size();
     }
     let r = records::load(bytes);
     let changed = host::group(r, line as usize, sink as usize, group as usize);
@@ -74,11 +67,11 @@ pub extern "C" fn lp586x_group(bytes: &mut [u8], line: u32, sink: u32, group: u3
 
 #[no_mangle]
 pub extern "C" fn lp586x_switch(bytes: &mut [u8], line: u32, sink: u32, state: u32) -> u32
-    ensures { λ r. ⌜ r ≡ settingNumber (now (bytes .entry)) (switchOf (recordIn (now (bytes .entry))) line sink state) ⌝ }
-    ensures { λ _. ⌜ now (bytes .exit) ≡ settingBytes (now (bytes .entry)) (switchOf (recordIn (now (bytes .entry))) line sink state) ⌝ }
+    ensures { λ r. ⌜ r ≡ switchCall (now (bytes .entry)) line sink state .answer ⌝ }
+    ensures { λ _. ⌜ now (bytes .exit) ≡ switchCall (now (bytes .entry)) line sink state .bytes ⌝ }
 {
     if bytes.len() != records::RECORD_SIZE {
-        return WRONG_SIZE;
+        return answers::wrong_size();
     }
     let r = records::load(bytes);
     let changed = host::switch(r, line as usize, sink as usize, state as usize);
@@ -87,11 +80,11 @@ pub extern "C" fn lp586x_switch(bytes: &mut [u8], line: u32, sink: u32, state: u
 
 #[no_mangle]
 pub extern "C" fn lp586x_scene(bytes: &mut [u8], scene: &[u8]) -> u32
-    ensures { λ r. ⌜ r ≡ settingNumber (now (bytes .entry)) (sceneOf (recordIn (now (bytes .entry))) (now (scene .entry))) ⌝ }
-    ensures { λ _. ⌜ now (bytes .exit) ≡ settingBytes (now (bytes .entry)) (sceneOf (recordIn (now (bytes .entry))) (now (scene .entry))) ⌝ }
+    ensures { λ r. ⌜ r ≡ sceneCall (now (bytes .entry)) (now (scene .entry)) .answer ⌝ }
+    ensures { λ _. ⌜ now (bytes .exit) ≡ sceneCall (now (bytes .entry)) (now (scene .entry)) .bytes ⌝ }
 {
     if bytes.len() != records::RECORD_SIZE {
-        return WRONG_SIZE;
+        return answers::wrong_size();
     }
     let r = records::load(bytes);
     let changed = host::scene(r, scene);
@@ -100,11 +93,11 @@ pub extern "C" fn lp586x_scene(bytes: &mut [u8], scene: &[u8]) -> u32
 
 #[no_mangle]
 pub extern "C" fn lp586x_power_lost(bytes: &mut [u8]) -> u32
-    ensures { λ r. ⌜ r ≡ settingNumber (now (bytes .entry)) (powerLostOf (recordIn (now (bytes .entry)))) ⌝ }
-    ensures { λ _. ⌜ now (bytes .exit) ≡ settingBytes (now (bytes .entry)) (powerLostOf (recordIn (now (bytes .entry)))) ⌝ }
+    ensures { λ r. ⌜ r ≡ powerLostCall (now (bytes .entry)) .answer ⌝ }
+    ensures { λ _. ⌜ now (bytes .exit) ≡ powerLostCall (now (bytes .entry)) .bytes ⌝ }
 {
     if bytes.len() != records::RECORD_SIZE {
-        return WRONG_SIZE;
+        return answers::wrong_size();
     }
     let r = records::load(bytes);
     let changed = host::power_lost(r);
@@ -121,15 +114,15 @@ pub extern "C" fn lp586x_update(
     t: &mut u32,
     needed: &mut u32,
 ) -> u32
-    ensures { λ r. ⌜ r ≡ listNumber (listAnswer (now (bytes .entry)) (updateOf (recordIn (now (bytes .entry))) (length (now (buffer .entry))))) ⌝ }
-    ensures { λ _. ⌜ now (bytes .exit) ≡ listBytes (now (bytes .entry)) (updateOf (recordIn (now (bytes .entry))) (length (now (buffer .entry)))) ⌝ }
-    ensures { λ _. ⌜ now (buffer .exit) ≡ bufferAfter (now (bytes .entry)) (updateBuffer (recordIn (now (bytes .entry))) (now (buffer .entry))) (now (buffer .entry)) ⌝ }
-    ensures { λ _. ⌜ now (n .exit) ≡ nAfter (listAnswer (now (bytes .entry)) (updateOf (recordIn (now (bytes .entry))) (length (now (buffer .entry))))) (now (n .entry)) ⌝ }
-    ensures { λ _. ⌜ now (t .exit) ≡ tAfter (listAnswer (now (bytes .entry)) (updateOf (recordIn (now (bytes .entry))) (length (now (buffer .entry))))) (now (t .entry)) ⌝ }
-    ensures { λ _. ⌜ now (needed .exit) ≡ neededAfter (listAnswer (now (bytes .entry)) (updateOf (recordIn (now (bytes .entry))) (length (now (buffer .entry))))) (now (needed .entry)) ⌝ }
+    ensures { λ r. ⌜ r ≡ updateCall (now (bytes .entry)) (now (buffer .entry)) (now (n .entry)) (now (t .entry)) .answer ⌝ }
+    ensures { λ _. ⌜ now (bytes .exit) ≡ updateCall (now (bytes .entry)) (now (buffer .entry)) (now (n .entry)) (now (t .entry)) .bytes ⌝ }
+    ensures { λ _. ⌜ now (buffer .exit) ≡ updateCall (now (bytes .entry)) (now (buffer .entry)) (now (n .entry)) (now (t .entry)) .buffer ⌝ }
+    ensures { λ _. ⌜ now (n .exit) ≡ updateCall (now (bytes .entry)) (now (buffer .entry)) (now (n .entry)) (now (t .entry)) .n ⌝ }
+    ensures { λ _. ⌜ now (t .exit) ≡ updateCall (now (bytes .entry)) (now (buffer .entry)) (now (n .entry)) (now (t .entry)) .t ⌝ }
+    ensures { λ _. ⌜ now (needed .exit) ≡ updateNeeded (now (bytes .entry)) (now (buffer .entry)) (now (needed .entry)) ⌝ }
 {
     if bytes.len() != records::RECORD_SIZE {
-        return WRONG_SIZE;
+        return answers::wrong_size();
     }
     let r = records::load(bytes);
     let updated = update::update(r, buffer);
@@ -141,14 +134,14 @@ pub extern "C" fn lp586x_update(
 
 #[no_mangle]
 pub extern "C" fn lp586x_reset(bytes: &mut [u8], buffer: &mut [u8], n: &mut u32, t: &mut u32) -> u32
-    ensures { λ r. ⌜ r ≡ listNumber (listAnswer (now (bytes .entry)) (chipResetOf (recordIn (now (bytes .entry))) (length (now (buffer .entry))))) ⌝ }
-    ensures { λ _. ⌜ now (bytes .exit) ≡ listBytes (now (bytes .entry)) (chipResetOf (recordIn (now (bytes .entry))) (length (now (buffer .entry)))) ⌝ }
-    ensures { λ _. ⌜ now (buffer .exit) ≡ bufferAfter (now (bytes .entry)) (resetBuffer (recordIn (now (bytes .entry))) (now (buffer .entry))) (now (buffer .entry)) ⌝ }
-    ensures { λ _. ⌜ now (n .exit) ≡ nAfter (listAnswer (now (bytes .entry)) (chipResetOf (recordIn (now (bytes .entry))) (length (now (buffer .entry))))) (now (n .entry)) ⌝ }
-    ensures { λ _. ⌜ now (t .exit) ≡ tAfter (listAnswer (now (bytes .entry)) (chipResetOf (recordIn (now (bytes .entry))) (length (now (buffer .entry))))) (now (t .entry)) ⌝ }
+    ensures { λ r. ⌜ r ≡ resetCall (now (bytes .entry)) (now (buffer .entry)) (now (n .entry)) (now (t .entry)) .answer ⌝ }
+    ensures { λ _. ⌜ now (bytes .exit) ≡ resetCall (now (bytes .entry)) (now (buffer .entry)) (now (n .entry)) (now (t .entry)) .bytes ⌝ }
+    ensures { λ _. ⌜ now (buffer .exit) ≡ resetCall (now (bytes .entry)) (now (buffer .entry)) (now (n .entry)) (now (t .entry)) .buffer ⌝ }
+    ensures { λ _. ⌜ now (n .exit) ≡ resetCall (now (bytes .entry)) (now (buffer .entry)) (now (n .entry)) (now (t .entry)) .n ⌝ }
+    ensures { λ _. ⌜ now (t .exit) ≡ resetCall (now (bytes .entry)) (now (buffer .entry)) (now (n .entry)) (now (t .entry)) .t ⌝ }
 {
     if bytes.len() != records::RECORD_SIZE {
-        return WRONG_SIZE;
+        return answers::wrong_size();
     }
     let r = records::load(bytes);
     let updated = update::reset(r, buffer);
@@ -164,13 +157,13 @@ pub extern "C" fn lp586x_clear_opens(
     n: &mut u32,
     t: &mut u32,
 ) -> u32
-    ensures { λ r. ⌜ r ≡ listNumber (listAnswer (now (bytes .entry)) (clearOf (recordIn (now (bytes .entry))) (length (now (buffer .entry))))) ⌝ }
-    ensures { λ _. ⌜ now (buffer .exit) ≡ bufferAfter (now (bytes .entry)) (clearOpensBuffer (recordIn (now (bytes .entry))) (now (buffer .entry))) (now (buffer .entry)) ⌝ }
-    ensures { λ _. ⌜ now (n .exit) ≡ nAfter (listAnswer (now (bytes .entry)) (clearOf (recordIn (now (bytes .entry))) (length (now (buffer .entry))))) (now (n .entry)) ⌝ }
-    ensures { λ _. ⌜ now (t .exit) ≡ tAfter (listAnswer (now (bytes .entry)) (clearOf (recordIn (now (bytes .entry))) (length (now (buffer .entry))))) (now (t .entry)) ⌝ }
+    ensures { λ r. ⌜ r ≡ clearOpensCall (now (bytes .entry)) (now (buffer .entry)) (now (n .entry)) (now (t .entry)) .answer ⌝ }
+    ensures { λ _. ⌜ now (buffer .exit) ≡ clearOpensCall (now (bytes .entry)) (now (buffer .entry)) (now (n .entry)) (now (t .entry)) .buffer ⌝ }
+    ensures { λ _. ⌜ now (n .exit) ≡ clearOpensCall (now (bytes .entry)) (now (buffer .entry)) (now (n .entry)) (now (t .entry)) .n ⌝ }
+    ensures { λ _. ⌜ now (t .exit) ≡ clearOpensCall (now (bytes .entry)) (now (buffer .entry)) (now (n .entry)) (now (t .entry)) .t ⌝ }
 {
     if bytes.len() != records::RECORD_SIZE {
-        return WRONG_SIZE;
+        return answers::wrong_size();
     }
     let r = records::load(bytes);
     let updated = update::clear_opens(r, buffer);
@@ -185,13 +178,13 @@ pub extern "C" fn lp586x_clear_shorts(
     n: &mut u32,
     t: &mut u32,
 ) -> u32
-    ensures { λ r. ⌜ r ≡ listNumber (listAnswer (now (bytes .entry)) (clearOf (recordIn (now (bytes .entry))) (length (now (buffer .entry))))) ⌝ }
-    ensures { λ _. ⌜ now (buffer .exit) ≡ bufferAfter (now (bytes .entry)) (clearShortsBuffer (recordIn (now (bytes .entry))) (now (buffer .entry))) (now (buffer .entry)) ⌝ }
-    ensures { λ _. ⌜ now (n .exit) ≡ nAfter (listAnswer (now (bytes .entry)) (clearOf (recordIn (now (bytes .entry))) (length (now (buffer .entry))))) (now (n .entry)) ⌝ }
-    ensures { λ _. ⌜ now (t .exit) ≡ tAfter (listAnswer (now (bytes .entry)) (clearOf (recordIn (now (bytes .entry))) (length (now (buffer .entry))))) (now (t .entry)) ⌝ }
+    ensures { λ r. ⌜ r ≡ clearShortsCall (now (bytes .entry)) (now (buffer .entry)) (now (n .entry)) (now (t .entry)) .answer ⌝ }
+    ensures { λ _. ⌜ now (buffer .exit) ≡ clearShortsCall (now (bytes .entry)) (now (buffer .entry)) (now (n .entry)) (now (t .entry)) .buffer ⌝ }
+    ensures { λ _. ⌜ now (n .exit) ≡ clearShortsCall (now (bytes .entry)) (now (buffer .entry)) (now (n .entry)) (now (t .entry)) .n ⌝ }
+    ensures { λ _. ⌜ now (t .exit) ≡ clearShortsCall (now (bytes .entry)) (now (buffer .entry)) (now (n .entry)) (now (t .entry)) .t ⌝ }
 {
     if bytes.len() != records::RECORD_SIZE {
-        return WRONG_SIZE;
+        return answers::wrong_size();
     }
     let r = records::load(bytes);
     let updated = update::clear_shorts(r, buffer);
@@ -232,11 +225,11 @@ pub extern "C" fn lp586x_faults(
 
 #[no_mangle]
 pub extern "C" fn lp586x_chip_at_reset(bytes: &mut [u8], member: u32, bus: u32, pins: u32) -> u32
-    ensures { λ r. ⌜ r ≡ chipNumber (now (bytes .entry)) (atResetOf member bus pins .answer) ⌝ }
-    ensures { λ _. ⌜ now (bytes .exit) ≡ chipAfter (now (bytes .entry)) (atResetOf member bus pins .answer) (atResetOf member bus pins .chip) ⌝ }
+    ensures { λ r. ⌜ r ≡ chipAtResetCall (now (bytes .entry)) member bus pins .answer ⌝ }
+    ensures { λ _. ⌜ now (bytes .exit) ≡ chipAtResetCall (now (bytes .entry)) member bus pins .bytes ⌝ }
 {
     if bytes.len() != records::CHIP_SIZE {
-        return WRONG_SIZE;
+        return answers::wrong_size();
     }
     let opened = chip::at_reset(member as usize, bus as usize, pins as usize);
     let answer = opened.answer;
@@ -246,11 +239,11 @@ pub extern "C" fn lp586x_chip_at_reset(bytes: &mut [u8], member: u32, bus: u32, 
 
 #[no_mangle]
 pub extern "C" fn lp586x_chip_power_lost(bytes: &mut [u8]) -> u32
-    ensures { λ r. ⌜ r ≡ chipNumber (now (bytes .entry)) Accepted ⌝ }
-    ensures { λ _. ⌜ now (bytes .exit) ≡ chipAfter (now (bytes .entry)) Accepted (Rattle.chip.specs.Chip.powerLostOf (chipIn (now (bytes .entry)))) ⌝ }
+    ensures { λ r. ⌜ r ≡ chipPowerLostCall (now (bytes .entry)) .answer ⌝ }
+    ensures { λ _. ⌜ now (bytes .exit) ≡ chipPowerLostCall (now (bytes .entry)) .bytes ⌝ }
 {
     if bytes.len() != records::CHIP_SIZE {
-        return WRONG_SIZE;
+        return answers::wrong_size();
     }
     let c = records::load_chip(bytes);
     let chip = chip::power_lost(c);
@@ -259,11 +252,11 @@ pub extern "C" fn lp586x_chip_power_lost(bytes: &mut [u8]) -> u32
 
 #[no_mangle]
 pub extern "C" fn lp586x_chip_feed(bytes: &mut [u8], list: &[u8]) -> u32
-    ensures { λ r. ⌜ r ≡ chipNumber (now (bytes .entry)) (feedOf (chipIn (now (bytes .entry))) (now (list .entry)) .answer) ⌝ }
-    ensures { λ _. ⌜ now (bytes .exit) ≡ chipAfter (now (bytes .entry)) (feedOf (chipIn (now (bytes .entry))) (now (list .entry)) .answer) (feedOf (chipIn (now (bytes .entry))) (now (list .entry)) .chip) ⌝ }
+    ensures { λ r. ⌜ r ≡ chipFeedCall (now (bytes .entry)) (now (list .entry)) .answer ⌝ }
+    ensures { λ _. ⌜ now (bytes .exit) ≡ chipFeedCall (now (bytes .entry)) (now (list .entry)) .bytes ⌝ }
 {
     if bytes.len() != records::CHIP_SIZE {
-        return WRONG_SIZE;
+        return answers::wrong_size();
     }
     let c = records::load_chip(bytes);
     let fed = chip::feed(c, list);

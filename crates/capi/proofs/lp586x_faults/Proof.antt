@@ -33,14 +33,19 @@ same-length c = search needs
 
 returns : tie.Need-returns
 unfolding answerNumbers
-returns c = rw (sym (c .before .before .before .before .before .faults .ensures .0) ∙ c .before .answer .given .1) (refl, (c .before .before .before .before .before .faults .ensures .1, (bool-number (c .before .answer .given .0 .0), bool-number (c .before .answer .given .0 .1 .0))))
+returns c =
+    let made = c .before .before .before .before .before in
+    rw (sym (made .faults .ensures .0) ∙ c .before .answer .given .1)
+    (refl, (made .faults .ensures .1, (bool-number (c .before .answer .given .0 .0), bool-number (c .before .answer .given .0 .1 .0))))
 
 same-length-2 : tie.Need-same-length-2
 same-length-2 c = search needs
 
 returns-2 : tie.Need-returns-2
 unfolding answerNumbers
-returns-2 c = rw (sym (c .before .before .before .before .before .before .faults .ensures .0) ∙ c .before .before .answer2 .given .1) (c .refusal-number .ensures, (c .before .before .before .before .before .before .faults .ensures .1, (refl, refl)))
+returns-2 c =
+    let made = c .before .before .before .before .before .before in
+    rw (sym (made .faults .ensures .0) ∙ c .before .before .answer2 .given .1) (c .refusal-number .ensures, (made .faults .ensures .1, (refl, refl)))
 
 pub lp586x-faults-spec : {M : Type 1} → statement M
 lp586x-faults-spec =

@@ -6,8 +6,11 @@ use Rattle.capi.proofs.Settled.{setting-unsized, setting-is}
 use Rattle.capi.proofs.lp586x_switch.Statement.{statement}
 use Rattle.capi.proofs.lp586x_switch.Tie as tie
 
+wrong-size-requires : tie.Need-wrong-size-requires
+wrong-size-requires c κs = search needs
+
 returns : tie.Need-returns
-returns c = setting-unsized _ _ (c .if1 .taken)
+returns c = setting-unsized _ _ _ (c .before .if1 .taken) (c .wrong-size .ensures)
 
 load-requires : tie.Need-load-requires
 load-requires c κs = search needs
@@ -27,4 +30,4 @@ returns-2 c = setting-is _ _ _ _ _ (c .before .before .before .before .switch .e
 pub lp586x-switch-spec : {M : Type 1} → statement M
 lp586x-switch-spec =
     tie.close
-    (tie.spec returns load-requires switch-requires settle-requires same-length returns-2)
+    (tie.spec wrong-size-requires returns load-requires switch-requires settle-requires same-length returns-2)

@@ -3,7 +3,7 @@
 use mathlib.Core.Path.{subst}
 use native.Mathlib.Omega.{arith}
 use borrow.Author.Needs.{needs}
-use Rattle.capi.proofs.Settled.{needed-short}
+use Rattle.capi.proofs.Settled.{needed-listed, needed-short, needed-refused}
 use Rattle.capi.specs.Capi.{Fits}
 use Rattle.capi.proofs.answers.put_needed.Statement.{statement}
 use Rattle.capi.proofs.answers.put_needed.Tie as tie
@@ -21,13 +21,13 @@ enum-told-2 : tie.Need-enum-told-2
 enum-told-2 c = search needs
 
 returns : tie.Need-returns
-returns c = search needs
+returns c = needed-listed _ _ _ _ (c .enum-told .given .1)
 
 returns-2 : tie.Need-returns-2
 returns-2 c = needed-short _ _ _ (c .before .answer .given .1)
 
 returns-3 : tie.Need-returns-3
-returns-3 c = search needs
+returns-3 c = needed-refused _ _ _ (c .enum-told2 .given .1)
 
 pub put-needed-spec : {M : Type 1} → statement M
 put-needed-spec =

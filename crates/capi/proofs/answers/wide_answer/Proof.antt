@@ -20,10 +20,14 @@ writable-requires : tie.Need-writable-requires
 writable-requires c κs = search needs
 
 returns-2 : tie.Need-returns-2
-returns-2 c = λ v h. wide-fixed _ _ _ (sym (c .before .before .before .before .sound .ensures) ∙ not-false _ (c .before .before .before .if1 .left)) (sym (c .before .writable .ensures) ∙ not-true _ (c .if2 .taken))
+returns-2 c = λ v h.
+    let tested = c .before .before .before in
+    wide-fixed _ _ _ (sym (tested .before .sound .ensures) ∙ not-false _ (tested .if1 .left)) (sym (c .before .writable .ensures) ∙ not-true _ (c .if2 .taken))
 
 returns-3 : tie.Need-returns-3
-returns-3 c = λ v h. wide-reserved _ _ _ (sym (c .before .before .before .before .sound .ensures) ∙ not-false _ (c .before .before .before .if1 .left)) (sym (c .before .writable .ensures) ∙ not-false _ (c .if2 .left)) h
+returns-3 c = λ v h.
+    let tested = c .before .before .before in
+    wide-reserved _ _ _ (sym (tested .before .sound .ensures) ∙ not-false _ (tested .if1 .left)) (sym (c .before .writable .ensures) ∙ not-false _ (c .if2 .left)) h
 
 pub wide-answer-spec : {M : Type 1} → statement M
 wide-answer-spec =

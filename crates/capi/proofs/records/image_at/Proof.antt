@@ -33,7 +33,10 @@ loop-less : tie.Need-loop-less Inv-loop μ-loop
 loop-less c = omega arith
 
 loop-again : tie.Need-loop-again Inv-loop μ-loop
-loop-again c = (omega arith, part-more _ (c .before .before .before .args .bytes .now) _ (c .before .before .before .args .from) (c .before .before .loop .i) (omega arith) (omega arith) (c .before .before .loop .inv .1))
+loop-again c =
+    let start = c .before .before .before in
+    let turn = c .before .before in
+    (omega arith, part-more _ (start .args .bytes .now) _ (start .args .from) (turn .loop .i) (omega arith) (omega arith) (turn .loop .inv .1))
 
 returns : tie.Need-returns Inv-loop μ-loop
 returns c = part-done _ _ _ (c .before .loop .i) 908 (omega arith) refl (c .before .loop .inv .1)

@@ -18,7 +18,11 @@ same-length : tie.Need-same-length
 same-length c = search needs
 
 returns : tie.Need-returns
-returns c = record-stored (c .before .before .before .before .before .before .before .before .before .before .before .before .before .before .before .before .before .args .bytes .now) _ _ _ (c .before .before .before .before .before .before .before .before .before .before .before .before .before .before .before .before .before .args .t2) (c .before .before .before .before .before .before .before .before .before .before .before .before .before .before .before .before .before .pre) (search needs) (search needs) (c .before .before .before .before .before .before .before .before .before .before .before .before .before .before .put-front .ensures) (c .before .before .before .before .before .before .before .before .put-image .ensures) (c .before .before .put-image2 .ensures)
+returns c =
+    let front = c .before .before .before .before .before .before .before .before .before .before .before .before .before .before in
+    let start = front .before .before .before in
+    record-stored (start .args .bytes .now) _ _ _ (start .args .t2) (start .pre) (search needs) (search needs) (front .put-front .ensures)
+    (c .before .before .before .before .before .before .before .before .put-image .ensures) (c .before .before .put-image2 .ensures)
 
 pub store-spec : {M : Type 1} → statement M
 store-spec =

@@ -15,7 +15,10 @@ same-length : tie.Need-same-length
 same-length c = search needs
 
 returns : tie.Need-returns
-returns c = chip-stored (c .before .before .before .before .before .before .before .before .before .before .before .args .bytes .now) _ _ (c .before .before .before .before .before .before .before .before .before .before .before .args .t2) (c .before .before .before .before .before .before .before .before .before .before .before .pre) (search needs) (c .before .before .before .before .before .before .before .before .put-front .ensures) (c .before .before .put-image .ensures)
+returns c =
+    let front = c .before .before .before .before .before .before .before .before in
+    let start = front .before .before .before in
+    chip-stored (start .args .bytes .now) _ _ (start .args .t2) (start .pre) (search needs) (front .put-front .ensures) (c .before .before .put-image .ensures)
 
 pub store-chip-spec : {M : Type 1} → statement M
 store-chip-spec = tie.close (tie.spec put-front-requires put-image-requires same-length returns)

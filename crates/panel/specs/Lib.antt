@@ -1,0 +1,4 @@
+pub mod PanelStep
+pub mod PanelHistory
+pub mod PanelLaws
+pub mod PanelTheorem

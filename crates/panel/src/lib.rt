@@ -1,0 +1,73 @@
+// A C program on the panel: one call of include/lp586x.h after the other, on the bytes of a record and of its chip.
+//
+// A call is made on the record's bytes. Where it answers 0 and wrote a list, the first 4 + 2n + t bytes of the buffer are fed to the
+// chip at once, and a loss of power is told to both. specs/PanelHistory.antt has the claim about whole lists of such calls,
+// specs/PanelTheorem.antt its proof from that of the crate history: the bytes are always those of its record and its chip.
+ghost use mathlib.Core.Path.{_≡_};
+ghost use Prim.Native.Nat.{_+_, _*_, _≤_};
+ghost use lib.ListN.{length};
+ghost use Rattle.panel.specs.PanelStep.{panelOf, stepped, panelStep, chipFed};
+
+// A call with its numbers, all of them uint32_t. The bytes of a Scene and the buffer of a Reset or an Update are lent beside it.
+pub enum Request {
+    Register { address: u32, value: u32 },
+    Lamp { line: u32, sink: u32, level: u32 },
+    Group { line: u32, sink: u32, group: u32 },
+    Switch { line: u32, sink: u32, state: u32 },
+    Scene,
+    Reset,
+    PowerLost,
+    Update,
+}
+
+// One call, as the program makes it. The chip loses its power whatever the record answers.
+pub fn call(
+    state: &mut [u8],
+    chip: &mut [u8],
+    request: Request,
+    lent: &mut [u8],
+    n: &mut u32,
+    t: &mut u32,
+    needed: &mut u32,
+) -> u32
+    ensures { λ r. ⌜ stepped r (panelOf (now (state .exit)) (now (chip .exit))) (now (lent .exit)) (now (n .exit)) (now (t .exit)) (now (needed .exit)) ≡ panelStep (panelOf (now (state .entry)) (now (chip .entry))) request (now (lent .entry)) (now (n .entry)) (now (t .entry)) (now (needed .entry)) ⌝ }
+{
+    match request {
+        Request::Register { address, value } => capi::lp586x_register(state, address, value),
+        Request::Lamp { line, sink, level } => capi::lp586x_lamp(state, line, sink, level),
+        Request::Group { line, sink, group } => capi::lp586x_group(state, line, sink, group),
+        Request::Switch {
+            line,
+            sink,
+            state: on,
+        } => capi::lp586x_switch(state, line, sink, on),
+        Request::Scene => capi::lp586x_scene(state, lent),
+        Request::Reset => {
+            let answer = capi::lp586x_reset(state, lent, n, t);
+            feed(answer, chip, lent, *n, *t);
+            answer
+        }
+        Request::PowerLost => {
+            capi::lp586x_chip_power_lost(chip);
+            capi::lp586x_power_lost(state)
+        }
+        Request::Update => {
+            let answer = capi::lp586x_update(state, lent, n, t, needed);
+            feed(answer, chip, lent, *n, *t);
+            answer
+        }
+    }
+}
+
+// The list of a call that answered 0 goes to the chip: the first 4 + 2n + t bytes of its buffer.
+fn feed(answer: u32, chip: &mut [u8], buffer: &[u8], n: u32, t: u32)
+    requires { ⌜ (answer ≡ 0 → 4 + 2 * n + t ≤ length (now buffer)) ⌝ }
+    ensures { λ _. ⌜ now (chip .exit) ≡ chipFed answer n t (now (buffer .entry)) (now (chip .entry)) ⌝ }
+{
+    if answer != 0 {
+        return;
+    }
+    let size = 4 + 2 * (n as usize) + (t as usize);
+    let list = &buffer[..size];
+    capi::lp586x_chip_feed(chip, list);
+}
