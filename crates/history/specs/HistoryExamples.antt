@@ -1,0 +1,67 @@
+-- Answers, lists and the ledger of a history, computed.
+-- Assumes nothing.
+use mathlib.Core.Path.{_≡_, refl}
+use mathlib.Core.Bool.{true, false}
+use mathlib.Core.List.{List, [], _∷_, map}
+use Prim.Native.Nat.{ℕ}
+use lib.ListN.{getD}
+use Rattle.map.specs.declared.refusals.Answer.the-variants.{Accepted, Refused}
+use Rattle.map.specs.declared.refusals.Refusal.the-variants.{NoDot}
+use Rattle.map.specs.Map.{linesOf, columnsOf, hasColumn, dotIn, isDot, numberIn, kindOf, dataMode, isWide, firstMasks, firstMask, pwmReserved, reservedAs, reservedOf, writableOf, firstReset, switchBytesOf, switchReset, currentReset, resetAs, resetOf}
+use Rattle.map.specs.Lists.{tableFrom, table}
+use Rattle.map.specs.Images.{okByte, imageOk, resetImage}
+use Rattle.host.specs.Record.{wideOf, topLevel, putLevel}
+use Rattle.update.specs.declared.ListAnswer.the-variants as lists
+use Rattle.history.specs.declared.CallAnswer.{CallAnswer}
+use Rattle.history.specs.declared.CallAnswer.the-variants as answers
+use Rattle.history.specs.declared.Request.{Request}
+use Rattle.history.specs.declared.Request.the-variants.{Register, Lamp, Reset, PowerLost, Update}
+use Rattle.history.specs.Ledger.{registerMeets, lampMeets, wantsOn, openedLedger, enteredOf}
+use Rattle.history.specs.Step.{callNumbers, listIn}
+use Rattle.history.specs.History.{Call, ledger}
+
+-- "a definition states this paper's number and values for each case of the enum"
+call-answers : List CallAnswer
+call-answers = answers.Setting Accepted ∷ answers.Setting (Refused NoDot) ∷ answers.List (lists.Listed 3 9) ∷ answers.List (lists.Short 19) ∷ []
+
+numbers-and-values : map callNumbers call-answers ≡ (0 ∷ []) ∷ (6 ∷ []) ∷ (0 ∷ 3 ∷ 9 ∷ []) ∷ (10 ∷ 19 ∷ []) ∷ []
+unfolding call-answers
+numbers-and-values = refl
+
+-- the list of n = 1 and t = 3 is the first "4 + 2n + t" bytes of the buffer
+list-in-front : listIn 1 3 (1 ∷ 2 ∷ 3 ∷ 4 ∷ 5 ∷ 6 ∷ 7 ∷ 8 ∷ 9 ∷ 10 ∷ []) ≡ 1 ∷ 2 ∷ 3 ∷ 4 ∷ 5 ∷ 6 ∷ 7 ∷ 8 ∷ 9 ∷ []
+list-in-front = refl
+
+-- "Chip enable is wanted on when bit 0 of the ledger's 000h is 1."
+wanted-on : (wantsOn (0x01 ∷ 0x00 ∷ []) ≡ true) × (wantsOn (0xFE ∷ 0xFF ∷ []) ≡ false)
+wanted-on = (refl, refl)
+
+-- "It has the member that the accepted Open was given, and 908 bytes, which begin at that member's reset values."
+new-ledger : openedLedger 3 ≡ record { member = 3; bytes = resetImage 3 }
+unfolding openedLedger
+new-ledger = refl
+
+-- where Open refuses the member, that of the record that it returns
+refused-ledger : openedLedger 5 ≡ record { member = 0; bytes = resetImage 0 }
+unfolding openedLedger
+refused-ledger = refl
+
+-- bytes that no ledger holds stay as they are, whatever the call
+no-ledger : (request : Request) (lent : List ℕ) → enteredOf (record { member = 5; bytes = 0x07 ∷ [] }) request lent ≡ record { member = 5; bytes = 0x07 ∷ [] }
+unfolding enteredOf imageOk
+no-ledger request lent = refl
+
+abbrev plain : Request → Call
+plain request = record { request = request; lent = [] }
+
+-- document 01's second bench example, with three settings that fail their conditions and three calls that set nothing: 038Ch is not
+-- writable, 02h at 000h has a reserved bit set, 100h is no level of 8 bits
+calls : List Call
+calls =
+    plain (Register 0x000 0x01) ∷ plain (Register 0x001 0x58) ∷ plain (Lamp 0 2 0x40)
+    ∷ plain (Register 0x38C 0x01) ∷ plain (Register 0x000 0x02) ∷ plain (Lamp 0 2 0x100)
+    ∷ plain Update ∷ plain Reset ∷ plain PowerLost ∷ []
+
+settings-asked : map (λ (a : ℕ). getD (ledger 0 calls) a 0) (0x000 ∷ 0x001 ∷ 0x202 ∷ 0x203 ∷ 0x204 ∷ []) ≡ 0x01 ∷ 0x58 ∷ 0x40 ∷ 0x00 ∷ 0x00 ∷ []
+unfolding calls registerMeets lampMeets okByte writableOf reservedOf reservedAs kindOf linesOf columnsOf hasColumn dotIn isDot numberIn dataMode isWide firstMasks firstMask pwmReserved wideOf topLevel putLevel resetImage table tableFrom resetOf resetAs firstReset switchBytesOf switchReset currentReset
+settings-asked = refl
