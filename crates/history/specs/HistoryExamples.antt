@@ -4,20 +4,24 @@ use mathlib.Core.Path.{_≡_, refl}
 use mathlib.Core.Bool.{true, false}
 use mathlib.Core.List.{List, [], _∷_, map}
 use Prim.Native.Nat.{ℕ}
-use lib.ListN.{getD}
+use lib.ListN.{getD, replicate}
 use Rattle.map.specs.declared.refusals.Answer.the-variants.{Accepted, Refused}
 use Rattle.map.specs.declared.refusals.Refusal.the-variants.{NoDot}
 use Rattle.map.specs.Map.{linesOf, columnsOf, hasColumn, dotIn, isDot, numberIn, kindOf, dataMode, isWide, firstMasks, firstMask, pwmReserved, reservedAs, reservedOf, writableOf, firstReset, switchBytesOf, switchReset, currentReset, resetAs, resetOf}
 use Rattle.map.specs.Lists.{tableFrom, table}
 use Rattle.map.specs.Images.{okByte, imageOk, resetImage}
-use Rattle.host.specs.Record.{wideOf, topLevel, putLevel}
+use Rattle.burst.specs.Burst.{byteAt, size16, nOf, tOf, lengthsFrom, lengths, cutFrom, transactions, lengthsGood, sizesGood, headFirst, headSecond, headAddress, headWrites, headSelect, transactionOf, listOf, encode}
+use Rattle.host.specs.Record.{soundOf, wideOf, topLevel, putLevel}
 use Rattle.update.specs.declared.ListAnswer.the-variants as lists
+use Rattle.update.specs.Update.{commandAnswer, commandBuffer, clearOf}
+use Rattle.chip.specs.Chip.{feedAnswer, selected, decodeOf, heard, isCommand, clearOpens, clearShorts, heardByte, hearByte, hearData, hear, apply, applyAll, feedOf}
+use Rattle.history.specs.declared.World.{World}
 use Rattle.history.specs.declared.CallAnswer.{CallAnswer}
 use Rattle.history.specs.declared.CallAnswer.the-variants as answers
 use Rattle.history.specs.declared.Request.{Request}
 use Rattle.history.specs.declared.Request.the-variants.{Register, Lamp, Reset, PowerLost, Update}
 use Rattle.history.specs.Ledger.{registerMeets, lampMeets, wantsOn, openedLedger, enteredOf}
-use Rattle.history.specs.Step.{callNumbers, listIn}
+use Rattle.history.specs.Step.{callNumbers, listIn, clearOpensStep, clearShortsStep}
 use Rattle.history.specs.History.{Call, ledger}
 
 -- "a definition states this paper's number and values for each case of the enum"
@@ -65,3 +69,19 @@ calls =
 settings-asked : map (λ (a : ℕ). getD (ledger 0 calls) a 0) (0x000 ∷ 0x001 ∷ 0x202 ∷ 0x203 ∷ 0x204 ∷ []) ≡ 0x01 ∷ 0x58 ∷ 0x40 ∷ 0x00 ∷ 0x00 ∷ []
 unfolding calls registerMeets lampMeets okByte writableOf reservedOf reservedAs kindOf linesOf columnsOf hasColumn dotIn isDot numberIn dataMode isWide firstMasks firstMask pwmReserved wideOf topLevel putLevel resetImage table tableFrom resetOf resetAs firstReset switchBytesOf switchReset currentReset
 settings-asked = refl
+
+-- ---- The Clears
+
+-- a record and a chip that are sound, on I2C with pins 0, and the chip is on
+module _ (w : World) (sound : soundOf (w .state) ≡ true) (bus : w .state .bus ≡ 0) (pins : w .state .pins ≡ 0)
+    (chip-sound : Rattle.chip.specs.Chip.soundOf (w .chip) ≡ true) (chip-bus : w .chip .bus ≡ 0) (chip-pins : w .chip .pins ≡ 0)
+    (on : getD (w .chip .registers) 0x000 0 ≡ 0x01) where
+  -- "0Fh to 0A7h": what the list of a Clear opens does to the chip, and the record stays
+  opens-cleared : (clearOpensStep w (replicate 9 0xA5) .world .chip .registers ≡ clearOpens (w .chip .registers)) × (clearOpensStep w (replicate 9 0xA5) .world .state ≡ w .state)
+  unfolding clearOf commandAnswer commandBuffer encode listOf transactionOf headFirst headSecond feedOf feedAnswer sizesGood lengthsGood transactions cutFrom lengths lengthsFrom nOf tOf size16 byteAt applyAll apply decodeOf selected headAddress headWrites headSelect hear hearData hearByte heardByte heard isCommand
+  opens-cleared = rw (sound, bus, pins, chip-sound, chip-bus, chip-pins, on) (refl, refl)
+
+  -- "or to 0A8h."
+  shorts-cleared : (clearShortsStep w (replicate 9 0xA5) .world .chip .registers ≡ clearShorts (w .chip .registers)) × (clearShortsStep w (replicate 9 0xA5) .world .state ≡ w .state)
+  unfolding clearOf commandAnswer commandBuffer encode listOf transactionOf headFirst headSecond feedOf feedAnswer sizesGood lengthsGood transactions cutFrom lengths lengthsFrom nOf tOf size16 byteAt applyAll apply decodeOf selected headAddress headWrites headSelect hear hearData hearByte heardByte heard isCommand
+  shorts-cleared = rw (sound, bus, pins, chip-sound, chip-bus, chip-pins, on) (refl, refl)

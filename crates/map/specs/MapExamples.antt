@@ -53,17 +53,17 @@ pub lp5867-228 : writableOf 3 0x228 ≡ false
 unfolding writableOf reservedOf reservedAs kindOf pwmReserved numberIn dotIn linesOf columnsOf hasColumn
 lp5867-228 = refl
 
--- Document 003 lists 04Fh, a switch byte of a line that the LP5864 has not, as FFh.
-pub lp5864-04F : _≡_ {A = ℕ} (resetOf 2 0x04F) 0xFF
-unfolding resetOf resetAs kindOf switchReset switchBytesOf
-lp5864-04F = refl
-
 -- ---- Members and dots
 
 -- "0 LP5860, 11 lines; 1 LP5861T, 1 line; 2 LP5864, 4 lines; 3 LP5867, 7 lines; 4 LP5868T, 8 lines.", and a code above 4 has none
 lines-of-members : table linesOf 6 ≡ 11 ∷ 1 ∷ 4 ∷ 7 ∷ 8 ∷ 0 ∷ []
 unfolding linesOf table tableFrom
 lines-of-members = refl
+
+-- bit s of a column set is sink s: all 18, those of the LP5867, none for a code above 4
+column-sets : table columnsOf 6 ≡ 0x3FFFF ∷ 0x3FFFF ∷ 0x3FFFF ∷ 0x30303 ∷ 0x3FFFF ∷ 0 ∷ []
+unfolding columnsOf table tableFrom
+column-sets = refl
 
 -- "Sinks are 0 to 17": 18 is absent
 sinks-of-lp5860 : table (noSink (columnsOf 0)) 19 ≡ 0 ∷ 0 ∷ 0 ∷ 0 ∷ 0 ∷ 0 ∷ 0 ∷ 0 ∷ 0 ∷ 0 ∷ 0 ∷ 0 ∷ 0 ∷ 0 ∷ 0 ∷ 0 ∷ 0 ∷ 0 ∷ 1 ∷ []
@@ -80,24 +80,23 @@ last-dot : (isDot 0 10 17 ≡ true) × (isDot 0 11 0 ≡ false) × (isDot 0 0 18
 unfolding isDot dotIn linesOf columnsOf hasColumn
 last-dot = (refl, refl, refl, refl)
 
--- "its number is d = 18 × line + sink": line 2, sink 1 has 37
-number-37 : numberOf 0 2 1 ≡ numbers.Is 37
+-- "its number is d = 18 × line + sink": line 2, sink 1 has 37, the last of 11 × 18 dots 197
+numbers-of-dots : (numberOf 0 2 1 ≡ numbers.Is 37) × (numberOf 0 10 17 ≡ numbers.Is 197)
 unfolding numberOf isDot dotIn linesOf columnsOf hasColumn
-number-37 = refl
+numbers-of-dots = (refl, refl)
 
-dot-37 : dotOf 0 37 ≡ dots.At 2 1
+dots-of-numbers : (dotOf 0 37 ≡ dots.At 2 1) × (dotOf 0 197 ≡ dots.At 10 17) × (dotOf 0 198 ≡ dots.Absent)
 unfolding dotOf isDot dotIn linesOf columnsOf hasColumn
-dot-37 = refl
+dots-of-numbers = (refl, refl, refl)
+
+has-numbers : (numberIn 11 (columnsOf 0) 197 ≡ true) × (numberIn 11 (columnsOf 0) 198 ≡ false)
+unfolding numberIn dotIn columnsOf hasColumn
+has-numbers = (refl, refl)
 
 -- "Sink 2: refusal 6": the LP5867's line 2, sink 2 would have 38
-no-number : (numberOf 3 2 2 ≡ numbers.Absent) × (dotOf 3 38 ≡ dots.Absent)
-unfolding numberOf dotOf isDot dotIn linesOf columnsOf hasColumn
-no-number = (refl, refl)
-
--- 18 × 11 dots: the last number is 197
-last-number : (numberIn 11 (columnsOf 0) 197 ≡ true) × (numberIn 11 (columnsOf 0) 198 ≡ false)
-unfolding numberIn dotIn columnsOf hasColumn
-last-number = (refl, refl)
+no-number : (numberOf 3 2 2 ≡ numbers.Absent) × (dotOf 3 38 ≡ dots.Absent) × (numberIn 7 (columnsOf 3) 38 ≡ false)
+unfolding numberOf numberIn dotOf isDot dotIn linesOf columnsOf hasColumn
+no-number = (refl, refl, refl)
 
 -- ---- The address table
 
@@ -163,6 +162,11 @@ reserved-of-lp5860 : map (reservedOf 0) (
 unfolding reservedOf reservedAs kindOf linesOf columnsOf hasColumn dotIn numberIn firstMasks firstMask noSink groupMask switchMask groupReserved switchReserved currentReserved pwmReserved
 reserved-of-lp5860 = refl
 
+-- "those the member's summary table adds": document 001 to 001h-004h
+reserved-of-lp5861t : map (reservedOf 1) (0x000 ∷ 0x001 ∷ 0x002 ∷ 0x003 ∷ 0x004 ∷ 0x005 ∷ []) ≡ 0xFE ∷ 0xF8 ∷ 0xF9 ∷ 0x03 ∷ 0xF1 ∷ 0x00 ∷ []
+unfolding reservedOf reservedAs kindOf firstMasks firstMask
+reserved-of-lp5861t = refl
+
 -- "bits of absent sinks": a line's five group bytes and three switch bytes of the LP5867
 reserved-of-lp5867 : map (reservedOf 3) (0x00C ∷ 0x00D ∷ 0x00E ∷ 0x00F ∷ 0x010 ∷ 0x043 ∷ 0x044 ∷ 0x045 ∷ [])
     ≡ 0xF0 ∷ 0xFF ∷ 0xF0 ∷ 0xFF ∷ 0xF0 ∷ 0xFC ∷ 0xFC ∷ 0xFC ∷ []
@@ -176,11 +180,10 @@ unfolding resetOf resetAs kindOf linesOf firstReset switchBytesOf switchReset cu
 resets-of-lp5860 = refl
 
 -- a code above 4 has no column, every bit reserved, and no reset value but 0
-no-member : (hasColumn (columnsOf 5) 0 ≡ false)
-    × (map (reservedOf 5) (0x000 ∷ 0x00C ∷ 0x043 ∷ 0x100 ∷ 0x200 ∷ []) ≡ 0xFF ∷ 0xFF ∷ 0xFF ∷ 0xFF ∷ 0xFF ∷ [])
+no-member : (map (reservedOf 5) (0x000 ∷ 0x00C ∷ 0x043 ∷ 0x100 ∷ 0x200 ∷ []) ≡ 0xFF ∷ 0xFF ∷ 0xFF ∷ 0xFF ∷ 0xFF ∷ [])
     × (map (resetOf 5) (0x001 ∷ 0x043 ∷ 0x100 ∷ []) ≡ 0 ∷ 0 ∷ 0 ∷ [])
 unfolding reservedOf reservedAs kindOf linesOf columnsOf hasColumn dotIn numberIn firstMask groupReserved switchReserved currentReserved pwmReserved resetOf resetAs firstReset switchBytesOf switchReset currentReset
-no-member = (refl, refl, refl)
+no-member = (refl, refl)
 
 -- "reset values in reserved bits and outside the writable addresses": 001h of the LP5860 takes any byte below 80h, 0AAh only its own
 bytes-that-may-stand : (map (okByte 0 0x001) (0x00 ∷ 0x7F ∷ 0x80 ∷ 0x100 ∷ []) ≡ true ∷ true ∷ false ∷ false ∷ [])
