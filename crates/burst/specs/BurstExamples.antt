@@ -46,14 +46,14 @@ bench-t : busBytes bench ≡ 9
 unfolding bench
 bench-t = refl
 
--- "All sizes are low byte first": n, t and the lengths, read and written
-low-byte-first : (nOf (0x34 ∷ 0x12 ∷ 0x78 ∷ 0x56 ∷ []) ≡ 0x1234) × (tOf (0x34 ∷ 0x12 ∷ 0x78 ∷ 0x56 ∷ []) ≡ 0x5678)
+-- "All sizes are low byte first", read and written; a place behind the end holds 0 and takes nothing
+low-byte-first : (nOf (0x34 ∷ 0x12 ∷ 0x78 ∷ 0x56 ∷ []) ≡ 0x1234) × (tOf (0x34 ∷ 0x12 ∷ 0x78 ∷ 0x56 ∷ []) ≡ 0x5678) × (tOf (0x34 ∷ 0x12 ∷ 0x78 ∷ []) ≡ 0x78)
 unfolding nOf tOf size16 byteAt
-low-byte-first = (refl, refl)
+low-byte-first = (refl, refl, refl)
 
-size-put : putSize (0 ∷ 0 ∷ 0 ∷ 0 ∷ []) 1 0x1234 ≡ 0 ∷ 0x34 ∷ 0x12 ∷ 0 ∷ []
+sizes-put : (putSize (0 ∷ 0 ∷ 0 ∷ 0 ∷ []) 1 0x1FF12 ≡ 0 ∷ 0x12 ∷ 0xFF ∷ 0 ∷ []) × (putSize (0 ∷ 0 ∷ []) 1 0x1234 ≡ 0 ∷ 0x34 ∷ [])
 unfolding putSize
-size-put = refl
+sizes-put = (refl, refl)
 
 -- "11: length under 4, a length below 3, lengths not adding to t, or a size other than 4 + 2n + t.": the empty list and one of one
 -- transaction are good; then each of the four
@@ -87,13 +87,18 @@ head-spi : transactionOf 1 0 last ≡ 0xE2 ∷ 0xE0 ∷ 0x11 ∷ 0x22 ∷ []
 unfolding transactionOf headFirst headSecond last
 head-spi = refl
 
+-- a bus above 1 counts as SPI, and only the bits that a head has room for are taken
+head-rooms : (transactionOf 2 0 last ≡ transactionOf 1 0 last) × (headFirst 0 4 0x400 ≡ 0x80) × (headFirst 1 0 0x400 ≡ 0x00)
+unfolding transactionOf headFirst headSecond last
+head-rooms = (refl, refl, refl)
+
 -- read back: "The data begin at the third byte"; "the low five bits of an SPI head count for nothing"
-head-back : (burstOf 0 (0x9E ∷ 0x8B ∷ 0x11 ∷ 0x22 ∷ []) ≡ last) × (burstOf 1 (0xE2 ∷ 0xFF ∷ 0x11 ∷ 0x22 ∷ []) ≡ last)
+head-back : (burstOf 0 (0x9E ∷ 0x8B ∷ 0x11 ∷ 0x22 ∷ []) ≡ last) × (burstOf 1 (0xE2 ∷ 0xFF ∷ 0x11 ∷ 0x22 ∷ []) ≡ last) × (burstOf 1 (0xE2 ∷ 0xC0 ∷ 0x11 ∷ 0x22 ∷ []) ≡ last)
 unfolding burstOf headAddress last
-head-back = (refl, refl)
+head-back = (refl, refl, refl)
 
 -- "0 for write" on I2C, "bit 5 as 1 for write" on SPI: a write and a read of each
-heads-that-write : (headWrites 0 0x9E 0x00 ≡ true) × (headWrites 0 0x9F 0x20 ≡ false) × (headWrites 1 0x01 0x20 ≡ true) × (headWrites 1 0x00 0xDF ≡ false)
+heads-that-write : (headWrites 0 0x9E 0x00 ≡ true) × (headWrites 0 0x9F 0x20 ≡ false) × (headWrites 1 0x01 0xA0 ≡ true) × (headWrites 1 0x00 0xDF ≡ false)
 unfolding headWrites
 heads-that-write = (refl, refl, refl, refl)
 

@@ -6,16 +6,16 @@ use mathlib.Core.Bool.{true, false}
 use mathlib.Core.List.{List, [], _∷_, _++_, map}
 use Prim.Native.Nat.{ℕ}
 use lib.ListN.{getD, replicate}
-use Rattle.map.specs.declared.refusals.Answer.the-variants.{Refused}
-use Rattle.map.specs.declared.refusals.Refusal.the-variants.{Member, Unsound}
-use Rattle.map.specs.Refusals.{openAnswer, opens}
+use Rattle.map.specs.declared.refusals.Answer.the-variants.{Accepted, Refused}
+use Rattle.map.specs.declared.refusals.Refusal.the-variants.{Member, ListSizes, Unsound}
+use Rattle.map.specs.Refusals.{answerNumber, openAnswer, opens}
 use Rattle.map.specs.Map.{kindOf, linesOf, columnsOf, hasColumn, dotIn, numberIn, firstMasks, firstMask, pwmReserved, reservedAs, reservedOf, firstReset, switchBytesOf, switchReset, currentReset, resetAs, resetOf}
 use Rattle.map.specs.Lists.{tableFrom, table, filled}
 use Rattle.map.specs.Images.{registersOk, resetImage}
-use Rattle.burst.specs.Burst.{headAddress, headWrites, headSelect}
+use Rattle.burst.specs.Burst.{byteAt, size16, nOf, tOf, lengthsFrom, lengths, cutFrom, transactions, lengthsGood, sizesGood, headAddress, headWrites, headSelect}
 use Rattle.chip.specs.declared.Chip.{Chip}
 use Rattle.chip.specs.declared.decode.Transaction.the-variants.{Write, PassesBy}
-use Rattle.chip.specs.Chip.{chipOf, soundOf, powerLostOf, newChip, atResetOf, feedAnswer, selected, decodeOf, heard, merged, putByte, isCommand, clearOpens, clearShorts, heardByte, hearByte, hearData, hear, apply, applyAll}
+use Rattle.chip.specs.Chip.{chipOf, soundOf, powerLostOf, newChip, atResetOf, feedAnswer, selected, decodeOf, isOn, heard, merged, putByte, isCommand, clearOpens, clearShorts, heardByte, hearByte, hearData, hear, apply, applyAll, feedOf}
 
 -- ---- the chip of an Open
 
@@ -37,7 +37,7 @@ unfolding atResetOf openAnswer
 refused-answer = refl
 
 -- "A power loss puts every byte at its reset value." A member above 4 has none
-power-lost : (powerLostOf (chipOf 3 1 0 []) ≡ chipOf 3 1 0 (resetImage 3)) × (powerLostOf (chipOf 5 1 0 (0x01 ∷ [])) ≡ chipOf 5 1 0 (0x01 ∷ []))
+power-lost : (powerLostOf (chipOf 4 1 0 []) ≡ chipOf 4 1 0 (resetImage 4)) × (powerLostOf (chipOf 5 1 0 (0x01 ∷ [])) ≡ chipOf 5 1 0 (0x01 ∷ []))
 unfolding powerLostOf
 power-lost = (refl, refl)
 
@@ -45,6 +45,19 @@ power-lost = (refl, refl)
 unsound-first : feedAnswer (chipOf 5 0 0 []) [] ≡ Refused Unsound
 unfolding feedAnswer soundOf opens openAnswer
 unsound-first = refl
+
+-- "A list whose sizes do not add up is refused whole.": 11, and the chip stays
+refused-whole : (c : Chip) → soundOf c ≡ true → feedOf c (0x00 ∷ 0x00 ∷ 0x00 ∷ []) ≡ record { answer = Refused ListSizes; chip = c }
+unfolding feedOf feedAnswer sizesGood
+refused-whole c sound = rw sound refl
+
+number-11 : answerNumber (Refused ListSizes) ≡ 11
+number-11 = refl
+
+-- a list without transactions is taken
+taken : (c : Chip) → soundOf c ≡ true → feedOf c (0x00 ∷ 0x00 ∷ 0x00 ∷ 0x00 ∷ []) ≡ record { answer = Accepted; chip = c }
+unfolding feedOf feedAnswer applyAll transactions cutFrom sizesGood lengthsGood lengths lengthsFrom nOf tOf size16 byteAt
+taken c sound = rw sound refl
 
 -- ---- heads of the chip with pins 2 on I2C: its own, another chip's, one for every chip, and a read
 own-head : decodeOf 0 2 0x94 0x02 ≡ Write 0x202
@@ -77,7 +90,16 @@ no-wrap : hearData 0 true 0x3FF (0x11 ∷ 0x22 ∷ []) (0x01 ∷ 0x58 ∷ []) �
 unfolding hearData hearByte heard isCommand
 no-wrap = refl
 
+-- 38Bh is the last address
+to-the-end : hearData 0 true 0x38B (0x11 ∷ 0x22 ∷ []) (replicate 908 0x00) ≡ replicate 907 0x00 ++ (0x11 ∷ [])
+unfolding hearData hearByte heardByte putByte merged heard isCommand reservedOf reservedAs kindOf pwmReserved numberIn dotIn hasColumn linesOf columnsOf
+to-the-end = refl
+
 -- ---- standby
+
+-- "(000h bit 0 clear when the transaction starts)": no other bit counts
+on-by-bit-0 : (isOn (0xFF ∷ 0x00 ∷ []) ≡ true) × (isOn (0xFE ∷ 0xFF ∷ []) ≡ false)
+on-by-bit-0 = (refl, refl)
 
 -- "only 000h and 0A9h are heard"
 heard-in-standby : map (heard false) (0x000 ∷ 0x001 ∷ 0x0A7 ∷ 0x0A8 ∷ 0x0A9 ∷ 0x0AA ∷ []) ≡ true ∷ false ∷ false ∷ false ∷ true ∷ false ∷ []
@@ -103,15 +125,15 @@ reserved-bits-stay = refl
 faulty : ℕ → ℕ → ℕ → List ℕ
 faulty s o h = replicate 0x064 0x55 ++ (s ∷ (replicate 33 o ++ (replicate 33 h ++ replicate 741 0x55)))
 
--- "0Fh at 0A7h puts 065h-085h at 00h and clears 064h bit 1,": all 908 bytes
-opens-cleared : heardByte 0 0x0A7 0x0F (faulty 0xFF 0xFF 0xFF) ≡ faulty 0xFD 0x00 0xFF
+-- "0Fh at 0A7h puts 065h-085h at 00h and clears 064h bit 1,": all 908 bytes, and 064h by its own bits
+opens-cleared : (heardByte 0 0x0A7 0x0F (faulty 0xFF 0xFF 0xFF) ≡ faulty 0xFD 0x00 0xFF) × (heardByte 0 0x0A7 0x0F (faulty 0x03 0x00 0x00) ≡ faulty 0x01 0x00 0x00)
 unfolding heardByte isCommand clearOpens filled faulty
-opens-cleared = refl
+opens-cleared = (refl, refl)
 
 -- "at 0A8h it does so for 086h-0A6h and 064h bit 0;"
-shorts-cleared : heardByte 0 0x0A8 0x0F (faulty 0xFF 0xFF 0xFF) ≡ faulty 0xFE 0xFF 0x00
+shorts-cleared : (heardByte 0 0x0A8 0x0F (faulty 0xFF 0xFF 0xFF) ≡ faulty 0xFE 0xFF 0x00) × (heardByte 0 0x0A8 0x0F (faulty 0x03 0x00 0x00) ≡ faulty 0x02 0x00 0x00)
 unfolding heardByte isCommand clearShorts filled faulty
-shorts-cleared = refl
+shorts-cleared = (refl, refl)
 
 -- "other command values do nothing.": 0Eh, and FFh which is only 0A9h's
 others-do-nothing : (heardByte 0 0x0A7 0x0E (faulty 0x03 0xFF 0xFF) ≡ faulty 0x03 0xFF 0xFF)

@@ -4,7 +4,7 @@ use mathlib.Core.Path.{_≡_, refl}
 use mathlib.Core.Bool.{true, false}
 use mathlib.Core.List.{List, [], _∷_, _++_, map}
 use Prim.Native.Nat.{ℕ}
-use lib.ListN.{replicate, take}
+use lib.ListN.{replicate, drop}
 use Rattle.map.specs.declared.refusals.Refusal.the-variants.{FaultLength}
 use Rattle.map.specs.Refusals.{answerNumber}
 use Rattle.map.specs.Map.{linesOf, columnsOf, hasColumn, dotIn, numberIn, addressOf, shiftOf}
@@ -45,6 +45,11 @@ absent-dots = (refl, refl)
 numbers-and-values : (answerNumbers (Read true false) ≡ 0 ∷ 1 ∷ 0 ∷ []) × (answerNumbers (Read false true) ≡ 0 ∷ 0 ∷ 1 ∷ []) × (answerNumbers (Refused FaultLength) ≡ 13 ∷ [])
 unfolding answerNumbers
 numbers-and-values = (refl, refl, refl)
+
+-- "The first 198 bytes become, by dot number" the readings; those behind them stay
+bytes-behind-stay : drop 196 (faultsResult 0 (bytes 0x03) (replicate 200 0xA5)) ≡ 0x00 ∷ 0x03 ∷ 0xA5 ∷ 0xA5 ∷ []
+unfolding faultsResult faultsChecked readings filled reading hasDot isSet bitSet faultByte lampReading addressOf shiftOf numberIn dotIn linesOf columnsOf hasColumn bytes
+bytes-behind-stay = refl
 
 -- "10: result under 198.": a refusal leaves every byte
 short-result : faultsResult 0 (bytes 0x03) (replicate 197 0xA5) ≡ replicate 197 0xA5

@@ -19,9 +19,9 @@ use Rattle.history.specs.declared.World.{World}
 use Rattle.history.specs.declared.CallAnswer.{CallAnswer}
 use Rattle.history.specs.declared.CallAnswer.the-variants as answers
 use Rattle.history.specs.declared.Request.{Request}
-use Rattle.history.specs.declared.Request.the-variants.{Register, Lamp, Reset, PowerLost, Update}
+use Rattle.history.specs.declared.Request.the-variants.{Register, Lamp, Group, Switch, Scene, Reset, PowerLost, Update}
 use Rattle.history.specs.Ledger.{registerMeets, lampMeets, wantsOn, openedLedger, enteredOf}
-use Rattle.history.specs.Step.{callNumbers, listIn, clearOpensStep, clearShortsStep}
+use Rattle.history.specs.Step.{callNumbers, listIn, lentAfter, clearOpensStep, clearShortsStep}
 use Rattle.history.specs.History.{Call, ledger}
 
 -- "a definition states this paper's number and values for each case of the enum"
@@ -35,6 +35,11 @@ numbers-and-values = refl
 -- the list of n = 1 and t = 3 is the first "4 + 2n + t" bytes of the buffer
 list-in-front : listIn 1 3 (1 ∷ 2 ∷ 3 ∷ 4 ∷ 5 ∷ 6 ∷ 7 ∷ 8 ∷ 9 ∷ 10 ∷ []) ≡ 1 ∷ 2 ∷ 3 ∷ 4 ∷ 5 ∷ 6 ∷ 7 ∷ 8 ∷ 9 ∷ []
 list-in-front = refl
+
+-- a setting and Power lost leave the lent bytes as they were: a scene's too
+lent-stays : (w : World) (lent : List ℕ) (x y z : ℕ) → (lentAfter w (Register x y) lent ≡ lent) × (lentAfter w (Lamp x y z) lent ≡ lent)
+    × (lentAfter w (Group x y z) lent ≡ lent) × (lentAfter w (Switch x y z) lent ≡ lent) × (lentAfter w Scene lent ≡ lent) × (lentAfter w PowerLost lent ≡ lent)
+lent-stays w lent x y z = (refl, refl, refl, refl, refl, refl)
 
 -- "Chip enable is wanted on when bit 0 of the ledger's 000h is 1."
 wanted-on : (wantsOn (0x01 ∷ 0x00 ∷ []) ≡ true) × (wantsOn (0xFE ∷ 0xFF ∷ []) ≡ false)

@@ -5,14 +5,14 @@ use mathlib.Core.Path.{_≡_, refl}
 use mathlib.Core.Bool.{true, false}
 use mathlib.Core.List.{List, [], _∷_, _++_, map}
 use Prim.Native.Nat.{ℕ}
-use lib.ListN.{replicate}
+use lib.ListN.{getD, set, replicate}
 use Rattle.map.specs.declared.dots.Field.the-variants.{Group, Switch}
 use Rattle.map.specs.Refusals.{answerNumber, openAnswer}
 use Rattle.map.specs.Map.{linesOf, columnsOf, hasColumn, dotIn, isDot, numberIn, kindOf, addressOf, shiftOf, widthOf, dataMode, isWide, firstMasks, firstMask, noSink, switchMask, switchReserved, pwmReserved, reservedAs, reservedOf, writableOf, firstReset, resetAs, resetOf}
 use Rattle.map.specs.Lists.{allFrom}
 use Rattle.map.specs.Images.{okByte, resetImage}
 use Rattle.host.specs.declared.Record.{Record}
-use Rattle.host.specs.Record.{soundOf, whenSound, settled, opened, openState, openOf, registerAnswer, wideOf, topLevel, whenDot, lampAnswer, putLevel, fieldAnswer, putBits, putField, groupOf, switchOf, wordAt, sceneDot, sceneLevel, sceneSized, sceneHasDot, sceneFits, sceneAnswer, putScene, soundAnswer}
+use Rattle.host.specs.Record.{soundOf, whenSound, settled, opened, openState, openOf, registerAnswer, registerOf, wideOf, topLevel, whenDot, lampAnswer, putLevel, lampOf, fieldAnswer, putBits, putField, groupOf, switchOf, wordAt, sceneDot, sceneLevel, sceneSized, sceneHasDot, sceneFits, sceneAnswer, putScene, sceneOf, soundAnswer, powerLostOf}
 use Rattle.host.specs.Reads.{levelOf, fieldOf}
 
 -- ---- Open
@@ -34,12 +34,12 @@ refused-open = (refl, refl, refl)
 
 -- "Every call but Open and Faults first refuses an unsound record with 14."
 module _ (r : Record) (unsound : soundOf r ≡ false) where
-  register-14 : (a v : ℕ) → answerNumber (registerAnswer r a v) ≡ 14
-  unfolding registerAnswer whenSound
+  register-14 : (a v : ℕ) → answerNumber (registerOf r a v .answer) ≡ 14
+  unfolding registerOf settled registerAnswer whenSound
   register-14 a v = rw unsound refl
 
-  lamp-14 : (l s v : ℕ) → answerNumber (lampAnswer r l s v) ≡ 14
-  unfolding lampAnswer whenDot whenSound
+  lamp-14 : (l s v : ℕ) → answerNumber (lampOf r l s v .answer) ≡ 14
+  unfolding lampOf settled lampAnswer whenDot whenSound
   lamp-14 l s v = rw unsound refl
 
   group-14 : (l s g : ℕ) → answerNumber (groupOf r l s g .answer) ≡ 14
@@ -50,26 +50,26 @@ module _ (r : Record) (unsound : soundOf r ≡ false) where
   unfolding switchOf settled fieldAnswer whenDot whenSound
   switch-14 l s x = rw unsound refl
 
-  scene-14 : (bytes : List ℕ) → answerNumber (sceneAnswer r bytes) ≡ 14
-  unfolding sceneAnswer whenSound
+  scene-14 : (bytes : List ℕ) → answerNumber (sceneOf r bytes .answer) ≡ 14
+  unfolding sceneOf settled sceneAnswer whenSound
   scene-14 bytes = rw unsound refl
 
-  power-lost-14 : answerNumber (soundAnswer r) ≡ 14
-  unfolding soundAnswer whenSound
+  power-lost-14 : answerNumber (powerLostOf r .answer) ≡ 14
+  unfolding powerLostOf soundAnswer whenSound
   power-lost-14 = rw unsound refl
 
 -- the others of a sound LP5860 with levels of 8 bits, in "the order its refusals stand here"
 module _ (r : Record) (sound : soundOf r ≡ true) (member : r .member ≡ 0) (top : topLevel (r .settings) ≡ 255) where
   -- "4: not writable, above 38Bh included. 5: a reserved bit differs from its reset value."
-  register-answers : (answerNumber (registerAnswer r 0x0AA 0xFF) ≡ 4) × (answerNumber (registerAnswer r 0x38C 0x00) ≡ 4)
-      × (answerNumber (registerAnswer r 0x000 0x02) ≡ 5) × (answerNumber (registerAnswer r 0x000 0x01) ≡ 0) × (answerNumber (registerAnswer r 0x38B 0xFF) ≡ 0)
-  unfolding registerAnswer whenSound okByte writableOf reservedOf reservedAs kindOf linesOf columnsOf hasColumn dotIn numberIn firstMasks firstMask pwmReserved resetOf resetAs firstReset
+  register-answers : (answerNumber (registerOf r 0x0AA 0xFF .answer) ≡ 4) × (answerNumber (registerOf r 0x38C 0x00 .answer) ≡ 4)
+      × (answerNumber (registerOf r 0x000 0x02 .answer) ≡ 5) × (answerNumber (registerOf r 0x000 0x01 .answer) ≡ 0) × (answerNumber (registerOf r 0x38B 0xFF .answer) ≡ 0)
+  unfolding registerOf settled registerAnswer whenSound okByte writableOf reservedOf reservedAs kindOf linesOf columnsOf hasColumn dotIn numberIn firstMasks firstMask pwmReserved resetOf resetAs firstReset
   register-answers = rw (sound, member) (refl, refl, refl, refl, refl)
 
   -- "6: no such dot. 7: level above 255 when the settings' data mode is 0 or 1"
-  lamp-answers : (answerNumber (lampAnswer r 11 0 256) ≡ 6) × (answerNumber (lampAnswer r 0 18 256) ≡ 6)
-      × (answerNumber (lampAnswer r 10 17 256) ≡ 7) × (answerNumber (lampAnswer r 10 17 255) ≡ 0)
-  unfolding lampAnswer whenDot whenSound isDot dotIn linesOf columnsOf hasColumn
+  lamp-answers : (answerNumber (lampOf r 11 0 256 .answer) ≡ 6) × (answerNumber (lampOf r 0 18 256 .answer) ≡ 6)
+      × (answerNumber (lampOf r 10 17 256 .answer) ≡ 7) × (answerNumber (lampOf r 10 17 255 .answer) ≡ 0)
+  unfolding lampOf settled lampAnswer whenDot whenSound isDot dotIn linesOf columnsOf hasColumn
   lamp-answers = rw (sound, member, top) (refl, refl, refl, refl)
 
   -- "6: no such dot. 8: group above 3, state above 1."
@@ -82,11 +82,24 @@ module _ (r : Record) (sound : soundOf r ≡ true) (member : r .member ≡ 0) (t
   switch-answers = rw (sound, member) (refl, refl, refl)
 
   -- "9: length under 2 or not 2 + 3 × n. Then all dot numbers, 6; then all levels, 7.": level 256 for dot 0 and dot 198 behind it
-  scene-answers : (answerNumber (sceneAnswer r (0 ∷ [])) ≡ 9) × (answerNumber (sceneAnswer r (1 ∷ 0 ∷ 198 ∷ 0 ∷ [])) ≡ 9)
-      × (answerNumber (sceneAnswer r (2 ∷ 0 ∷ 0 ∷ 198 ∷ 0 ∷ 1 ∷ 0 ∷ 0 ∷ [])) ≡ 6) × (answerNumber (sceneAnswer r (2 ∷ 0 ∷ 0 ∷ 197 ∷ 0 ∷ 1 ∷ 0 ∷ 0 ∷ [])) ≡ 7)
-      × (answerNumber (sceneAnswer r (2 ∷ 0 ∷ 0 ∷ 197 ∷ 255 ∷ 0 ∷ 0 ∷ 0 ∷ [])) ≡ 0) × (answerNumber (sceneAnswer r (0 ∷ 0 ∷ [])) ≡ 0)
-  unfolding sceneAnswer whenSound sceneSized wordAt allFrom sceneHasDot sceneDot sceneFits sceneLevel numberIn dotIn linesOf columnsOf hasColumn
+  scene-answers : (answerNumber (sceneOf r (0 ∷ []) .answer) ≡ 9) × (answerNumber (sceneOf r (1 ∷ 0 ∷ 198 ∷ 0 ∷ []) .answer) ≡ 9)
+      × (answerNumber (sceneOf r (2 ∷ 0 ∷ 0 ∷ 198 ∷ 0 ∷ 1 ∷ 0 ∷ 0 ∷ []) .answer) ≡ 6) × (answerNumber (sceneOf r (2 ∷ 0 ∷ 0 ∷ 197 ∷ 0 ∷ 1 ∷ 0 ∷ 0 ∷ []) .answer) ≡ 7)
+      × (answerNumber (sceneOf r (2 ∷ 0 ∷ 0 ∷ 197 ∷ 255 ∷ 0 ∷ 0 ∷ 0 ∷ []) .answer) ≡ 0) × (answerNumber (sceneOf r (0 ∷ 0 ∷ []) .answer) ≡ 0)
+  unfolding sceneOf settled sceneAnswer whenSound sceneSized wordAt allFrom sceneHasDot sceneDot sceneFits sceneLevel numberIn dotIn linesOf columnsOf hasColumn
   scene-answers = rw (sound, member, top) (refl, refl, refl, refl, refl, refl)
+
+  -- "Each setting's promise equates the whole new image with the old one changed at the named bits": line 3, sink 14 is dot 68, its group
+  -- two bits from bit 4 of 01Eh, its switch bit 6 of 04Dh
+  dot-68-set : (lampOf r 3 14 0x40 .state .settings ≡ putLevel (r .settings) 68 0x40)
+      × (groupOf r 3 14 2 .state .settings ≡ set (r .settings) 0x01E (putBits 4 2 (getD (r .settings) 0x01E 0) 2))
+      × (switchOf r 3 14 0 .state .settings ≡ set (r .settings) 0x04D (putBits 6 1 (getD (r .settings) 0x04D 0) 0))
+  unfolding lampOf groupOf switchOf settled lampAnswer fieldAnswer whenDot whenSound isDot dotIn linesOf columnsOf hasColumn putField addressOf shiftOf widthOf
+  dot-68-set = rw (sound, member, top) (refl, refl, refl)
+
+  -- "Power lost: no bytes." "the chip image has reset values and the settings are kept"
+  power-lost : (answerNumber (powerLostOf r .answer) ≡ 0) × (powerLostOf r .state .image ≡ resetImage 0) × (powerLostOf r .state .settings ≡ r .settings)
+  unfolding powerLostOf soundAnswer whenSound
+  power-lost = rw (sound, member) (refl, refl, refl)
 
 -- ---- Levels
 
@@ -105,7 +118,7 @@ unfolding putLevel wideOf isWide dataMode panel
 level-8-bits = refl
 
 -- "16 bits at 200h + 2 × d, low byte first" in mode 2
-level-16-bits : putLevel (panel 0x5C 0x55 0x55 0x55) 68 0x1234 ≡ panel 0x5C 0x55 0x34 0x12
+level-16-bits : putLevel (panel 0x5C 0x55 0x55 0x55) 68 0xFF12 ≡ panel 0x5C 0x55 0x12 0xFF
 unfolding putLevel wideOf isWide dataMode panel
 level-16-bits = refl
 

@@ -167,9 +167,14 @@ reserved-of-lp5861t : map (reservedOf 1) (0x000 ∷ 0x001 ∷ 0x002 ∷ 0x003 �
 unfolding reservedOf reservedAs kindOf firstMasks firstMask
 reserved-of-lp5861t = refl
 
--- "bits of absent sinks": a line's five group bytes and three switch bytes of the LP5867
-reserved-of-lp5867 : map (reservedOf 3) (0x00C ∷ 0x00D ∷ 0x00E ∷ 0x00F ∷ 0x010 ∷ 0x043 ∷ 0x044 ∷ 0x045 ∷ [])
-    ≡ 0xF0 ∷ 0xFF ∷ 0xF0 ∷ 0xFF ∷ 0xF0 ∷ 0xFC ∷ 0xFC ∷ 0xFC ∷ []
+-- 001h of each member, and of a code above 4: the LP5861T alone adds bits; "001h 5Eh" for all
+all-at-001 : (table (λ m. reservedOf m 0x001) 6 ≡ 0x80 ∷ 0xF8 ∷ 0x80 ∷ 0x80 ∷ 0x80 ∷ 0xFF ∷ []) × (table (λ m. resetOf m 0x001) 6 ≡ 0x5E ∷ 0x5E ∷ 0x5E ∷ 0x5E ∷ 0x5E ∷ 0x00 ∷ [])
+unfolding reservedOf reservedAs kindOf firstMasks firstMask resetOf resetAs firstReset table tableFrom
+all-at-001 = (refl, refl)
+
+-- "bits of absent sinks": the LP5867's line 0, its five group bytes and three switch bytes, with the first of line 1 behind them
+reserved-of-lp5867 : map (reservedOf 3) (0x00C ∷ 0x00D ∷ 0x00E ∷ 0x00F ∷ 0x010 ∷ 0x011 ∷ 0x043 ∷ 0x044 ∷ 0x045 ∷ 0x046 ∷ [])
+    ≡ 0xF0 ∷ 0xFF ∷ 0xF0 ∷ 0xFF ∷ 0xF0 ∷ 0xF0 ∷ 0xFC ∷ 0xFC ∷ 0xFC ∷ 0xFC ∷ []
 unfolding reservedOf reservedAs kindOf linesOf columnsOf hasColumn noSink groupMask switchMask groupReserved switchReserved
 reserved-of-lp5867 = refl
 
@@ -179,7 +184,27 @@ resets-of-lp5860 : map (resetOf 0) (0x00C ∷ 0x061 ∷ 0x062 ∷ 0x063 ∷ 0x06
 unfolding resetOf resetAs kindOf linesOf firstReset switchBytesOf switchReset currentReset
 resets-of-lp5860 = refl
 
--- a code above 4 has no column, every bit reserved, and no reset value but 0
+-- "A member's own summary table overrides; an address it does not list resets to 00h": document 003 lists 04Fh, a switch byte of a line
+-- that the LP5864 has not, as FFh; its 72 dots end at 147h
+resets-of-lp5864 : map (resetOf 2) (0x04E ∷ 0x04F ∷ 0x050 ∷ 0x147 ∷ 0x148 ∷ []) ≡ 0x03 ∷ 0xFF ∷ 0x00 ∷ 0x80 ∷ 0x00 ∷ []
+unfolding resetOf resetAs kindOf linesOf switchBytesOf switchReset currentReset
+resets-of-lp5864 = refl
+
+-- the last switch byte and the last current of one line and of eight, and what is behind them
+resets-of-lp5861t : map (resetOf 1) (0x045 ∷ 0x046 ∷ 0x111 ∷ 0x112 ∷ []) ≡ 0x03 ∷ 0x00 ∷ 0x80 ∷ 0x00 ∷ []
+unfolding resetOf resetAs kindOf linesOf switchBytesOf switchReset currentReset
+resets-of-lp5861t = refl
+
+resets-of-lp5868t : map (resetOf 4) (0x05A ∷ 0x05B ∷ 0x18F ∷ 0x190 ∷ []) ≡ 0x03 ∷ 0x00 ∷ 0x80 ∷ 0x00 ∷ []
+unfolding resetOf resetAs kindOf linesOf switchBytesOf switchReset currentReset
+resets-of-lp5868t = refl
+
+-- document 004 lists the currents of the LP5867's absent sinks too: 102h is that of line 0, sink 2; 17Eh would be of line 7
+resets-of-lp5867 : map (resetOf 3) (0x057 ∷ 0x058 ∷ 0x102 ∷ 0x17D ∷ 0x17E ∷ []) ≡ 0x03 ∷ 0x00 ∷ 0x80 ∷ 0x80 ∷ 0x00 ∷ []
+unfolding resetOf resetAs kindOf linesOf switchBytesOf switchReset currentReset
+resets-of-lp5867 = refl
+
+-- a code above 4 has every bit reserved, and no reset value but 0
 no-member : (map (reservedOf 5) (0x000 ∷ 0x00C ∷ 0x043 ∷ 0x100 ∷ 0x200 ∷ []) ≡ 0xFF ∷ 0xFF ∷ 0xFF ∷ 0xFF ∷ 0xFF ∷ [])
     × (map (resetOf 5) (0x001 ∷ 0x043 ∷ 0x100 ∷ []) ≡ 0 ∷ 0 ∷ 0 ∷ [])
 unfolding reservedOf reservedAs kindOf linesOf columnsOf hasColumn dotIn numberIn firstMask groupReserved switchReserved currentReserved pwmReserved resetOf resetAs firstReset switchBytesOf switchReset currentReset
