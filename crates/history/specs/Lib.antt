@@ -6,3 +6,4 @@ pub mod WorldLaws
 pub mod RivalLaws
 pub mod Theorem
 pub mod Lamps
+pub mod HistoryExamples

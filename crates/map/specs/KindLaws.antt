@@ -1,23 +1,21 @@
--- The address table's rule: the entry at each of the 908 addresses names the kind that the ranges give it, and the address
--- that a formula gives a field of a dot is of the field's kind.
+-- The entry at each of the 908 addresses names the kind that the ranges give it.
 -- Assumes nothing.
 use mathlib.Core.Path.{_≡_, refl, sym, ap, _∙_}
 use mathlib.Core.List.{List}
-use Prim.Native.Nat.{ℕ, _+_, _<_, _≤_}
+use Prim.Native.Nat.{ℕ, _<_, _≤_}
 use native.Mathlib.Decide.{decLt}
 use native.Mathlib.Omega.{arith}
 use borrow.Author.Tests.{lt-ltb, le-ltb, ne-eqb}
 use lib.ListN.{length, getD}
 use Rattle.map.specs.declared.kinds.Kind.{Kind}
 use Rattle.map.specs.declared.kinds.Kind.the-variants.{Config, Group, Switch, FaultState, Open, Short, Command, Current, Pwm, Hole}
-use Rattle.map.specs.declared.dots.Field as fields
-use Rattle.map.specs.Map.{kindOf, addressOf, fieldKind}
-use Rattle.map.specs.MapLaws.{kind-group, kind-switch, kind-open, kind-short, kind-current, kind-pwm, kind-past}
+use Rattle.map.specs.Map.{kindOf}
+use Rattle.map.specs.MapLaws.{kind-past}
 use Rattle.map.specs.KindTable.{kindNumber, kindNamed, kindNumberAt, kindTable, kindIn}
 use Rattle.map.specs.Lists.{table}
 use Rattle.map.specs.ListLaws.{table-at, table-length}
 
-named-number : (k : Kind) → kindNamed (kindNumber k) ≡ k
+pub named-number : (k : Kind) → kindNamed (kindNumber k) ≡ k
 unfolding kindNamed
 named-number Config = refl
 named-number Group = refl
@@ -67,23 +65,3 @@ kind-in-other kinds a h n0 n1 n2 n3 n4 n5 n6 n7 n8 =
       ne-eqb _ 7 n7,
       ne-eqb _ 8 n8,
     )
-
--- "The table's rule, entry against formula": the address of each field of each dot is of the field's kind
-pub kind-field : (f : fields.Field) (l s : ℕ) → l < 11 → s < 18 → kindOf (addressOf f l s) ≡ fieldKind f
-unfolding addressOf fieldKind
-kind-field fields.the-variants.Group l s hl hs = kind-group _ (omega arith) (omega arith)
-kind-field fields.the-variants.Switch l s hl hs = kind-switch _ (omega arith) (omega arith)
-kind-field fields.the-variants.Open l s hl hs = kind-open _ (omega arith) (omega arith)
-kind-field fields.the-variants.Short l s hl hs = kind-short _ (omega arith) (omega arith)
-kind-field fields.the-variants.Current l s hl hs = kind-current _ (omega arith) (omega arith)
-kind-field fields.the-variants.Pwm8 l s hl hs = kind-pwm _ (omega arith) (omega arith)
-kind-field fields.the-variants.Pwm16 l s hl hs = kind-pwm _ (omega arith) (omega arith)
-
--- the high byte of 16 bits
-pub kind-high : (l s : ℕ) → l < 11 → s < 18 → kindOf (addressOf fields.the-variants.Pwm16 l s + 1) ≡ Pwm
-unfolding addressOf
-kind-high l s hl hs = kind-pwm _ (omega arith) (omega arith)
-
--- the table's entry there
-pub table-field : (f : fields.Field) (l s : ℕ) → l < 11 → s < 18 → kindIn kindTable (addressOf f l s) ≡ fieldKind f
-table-field f l s hl hs = kind-in-table kindTable (addressOf f l s) refl ∙ kind-field f l s hl hs

@@ -35,12 +35,6 @@ unfolding kindOf
 past-switches a l h =
     simp (le-ltb a 0x00C (omega arith), le-ltb a 0x043 (omega arith), le-ltb a 0x064 l, lt-ltb a 0x100 h)
 
-pub kind-open : (a : ℕ) → 0x065 ≤ a → a < 0x086 → kindOf a ≡ Open
-kind-open a l h = past-switches a (omega arith) (omega arith) ∙ simp (le-ltb a 0x065 l, lt-ltb a 0x086 h)
-
-pub kind-short : (a : ℕ) → 0x086 ≤ a → a < 0x0A7 → kindOf a ≡ Short
-kind-short a l h = past-switches a (omega arith) (omega arith) ∙ simp (le-ltb a 0x065 (omega arith), le-ltb a 0x086 l, lt-ltb a 0x0A7 h)
-
 past-middle : (a : ℕ) → 0x100 ≤ a → kindOf a ≡ cond (ltb a 0x1C6) Current (cond (ltb a 0x200) Hole (cond (ltb a 0x38C) Pwm Hole))
 unfolding kindOf
 past-middle a h =

@@ -1,13 +1,13 @@
 -- Worked examples of the plan and of the update's list, computed: document 01, "Bench examples".
 -- Assumes nothing.
 use mathlib.Core.Path.{_≡_, refl}
-use mathlib.Core.Bool.{cond, _||_}
+use mathlib.Core.Bool.{true, false, cond, _||_}
 use mathlib.Core.List.{[], _∷_}
 use Prim.Native.Nat.{ℕ}
 use lib.Dec.{ltb, eqb}
 use lib.ListN.{set, replicate}
 use Rattle.plan.specs.Plan.{Mark, hole, clean, dirty, scan, plan}
-use Rattle.plan.specs.Update.{valueAt, updateFor}
+use Rattle.plan.specs.Update.{valueAt, onBy, updateFor, storeAll}
 
 -- all addresses writable, only a and b differ
 only : ℕ → ℕ → ℕ → Mark
@@ -40,3 +40,27 @@ enables-first : updateFor (λ a. ltb a 908) 908 (set (set (set (replicate 908 0)
     ∷ []
 unfolding updateFor plan scan
 enables-first = refl
+
+-- "Settings off, chip on: one write of 00h to 000h."
+turns-off : updateFor (λ a. ltb a 3) 3 (0x00 ∷ 0x11 ∷ 0x22 ∷ []) (valueAt (0x01 ∷ 0x00 ∷ 0x00 ∷ [])) ≡ record { start = 0x000; bytes = 0x00 ∷ [] } ∷ []
+unfolding updateFor
+turns-off = refl
+
+-- "Both off: nothing. Other settings wait."
+stays-off : updateFor (λ a. ltb a 3) 3 (0x00 ∷ 0x11 ∷ 0x22 ∷ []) (valueAt (0x00 ∷ 0x00 ∷ 0x00 ∷ [])) ≡ []
+unfolding updateFor
+stays-off = refl
+
+-- with both on only what differs: 002h, and neither 000h nor 001h
+stays-on : updateFor (λ a. ltb a 3) 3 (0x01 ∷ 0x11 ∷ 0x22 ∷ []) (valueAt (0x01 ∷ 0x11 ∷ 0x00 ∷ [])) ≡ record { start = 0x002; bytes = 0x22 ∷ [] } ∷ []
+unfolding updateFor plan scan
+stays-on = refl
+
+-- "on when bit 0 of 000h in their image is 1": no other bit, no other address
+on-by-bit-0 : (onBy (valueAt (0x01 ∷ 0x00 ∷ [])) ≡ true) × (onBy (valueAt (0xFE ∷ 0xFF ∷ [])) ≡ false)
+on-by-bit-0 = (refl, refl)
+
+-- "the chip image takes the data bytes at their addresses."
+image-takes : storeAll (record { start = 1; bytes = 0x11 ∷ 0x22 ∷ [] } ∷ record { start = 4; bytes = 0x33 ∷ [] } ∷ []) (replicate 6 0)
+    ≡ 0x00 ∷ 0x11 ∷ 0x22 ∷ 0x00 ∷ 0x33 ∷ 0x00 ∷ []
+image-takes = refl

@@ -1,3 +1,4 @@
 pub mod Replies
 pub mod Run
 pub mod Play
+pub mod SessionExamples

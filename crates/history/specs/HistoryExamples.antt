@@ -1,0 +1,92 @@
+-- Answers, lists and the ledger of a history, computed.
+-- Assumes nothing.
+use mathlib.Core.Path.{_≡_, refl}
+use mathlib.Core.Bool.{true, false}
+use mathlib.Core.List.{List, [], _∷_, map}
+use Prim.Native.Nat.{ℕ}
+use lib.ListN.{getD, replicate}
+use Rattle.map.specs.declared.refusals.Answer.the-variants.{Accepted, Refused}
+use Rattle.map.specs.declared.refusals.Refusal.the-variants.{NoDot}
+use Rattle.map.specs.Map.{linesOf, columnsOf, hasColumn, dotIn, isDot, numberIn, kindOf, dataMode, isWide, firstMasks, firstMask, pwmReserved, reservedAs, reservedOf, writableOf, firstReset, switchBytesOf, switchReset, currentReset, resetAs, resetOf}
+use Rattle.map.specs.Lists.{tableFrom, table}
+use Rattle.map.specs.Images.{okByte, imageOk, resetImage}
+use Rattle.burst.specs.Burst.{byteAt, size16, nOf, tOf, lengthsFrom, lengths, cutFrom, transactions, lengthsGood, sizesGood, headFirst, headSecond, headAddress, headWrites, headSelect, transactionOf, listOf, encode}
+use Rattle.host.specs.Record.{soundOf, wideOf, topLevel, putLevel}
+use Rattle.update.specs.declared.ListAnswer.the-variants as lists
+use Rattle.update.specs.Update.{commandAnswer, commandBuffer, clearOf}
+use Rattle.chip.specs.Chip.{feedAnswer, selected, decodeOf, heard, isCommand, clearOpens, clearShorts, heardByte, hearByte, hearData, hear, apply, applyAll, feedOf}
+use Rattle.history.specs.declared.World.{World}
+use Rattle.history.specs.declared.CallAnswer.{CallAnswer}
+use Rattle.history.specs.declared.CallAnswer.the-variants as answers
+use Rattle.history.specs.declared.Request.{Request}
+use Rattle.history.specs.declared.Request.the-variants.{Register, Lamp, Group, Switch, Scene, Reset, PowerLost, Update}
+use Rattle.history.specs.Ledger.{registerMeets, lampMeets, wantsOn, openedLedger, enteredOf}
+use Rattle.history.specs.Step.{callNumbers, listIn, lentAfter, clearOpensStep, clearShortsStep}
+use Rattle.history.specs.History.{Call, ledger}
+
+-- "a definition states this paper's number and values for each case of the enum"
+call-answers : List CallAnswer
+call-answers = answers.Setting Accepted ∷ answers.Setting (Refused NoDot) ∷ answers.List (lists.Listed 3 9) ∷ answers.List (lists.Short 19) ∷ []
+
+numbers-and-values : map callNumbers call-answers ≡ (0 ∷ []) ∷ (6 ∷ []) ∷ (0 ∷ 3 ∷ 9 ∷ []) ∷ (10 ∷ 19 ∷ []) ∷ []
+unfolding call-answers
+numbers-and-values = refl
+
+-- the list of n = 1 and t = 3 is the first "4 + 2n + t" bytes of the buffer
+list-in-front : listIn 1 3 (1 ∷ 2 ∷ 3 ∷ 4 ∷ 5 ∷ 6 ∷ 7 ∷ 8 ∷ 9 ∷ 10 ∷ []) ≡ 1 ∷ 2 ∷ 3 ∷ 4 ∷ 5 ∷ 6 ∷ 7 ∷ 8 ∷ 9 ∷ []
+list-in-front = refl
+
+-- a setting and Power lost leave the lent bytes as they were: a scene's too
+lent-stays : (w : World) (lent : List ℕ) (x y z : ℕ) → (lentAfter w (Register x y) lent ≡ lent) × (lentAfter w (Lamp x y z) lent ≡ lent)
+    × (lentAfter w (Group x y z) lent ≡ lent) × (lentAfter w (Switch x y z) lent ≡ lent) × (lentAfter w Scene lent ≡ lent) × (lentAfter w PowerLost lent ≡ lent)
+lent-stays w lent x y z = (refl, refl, refl, refl, refl, refl)
+
+-- "Chip enable is wanted on when bit 0 of the ledger's 000h is 1."
+wanted-on : (wantsOn (0x01 ∷ 0x00 ∷ []) ≡ true) × (wantsOn (0xFE ∷ 0xFF ∷ []) ≡ false)
+wanted-on = (refl, refl)
+
+-- "It has the member that the accepted Open was given, and 908 bytes, which begin at that member's reset values."
+new-ledger : openedLedger 3 ≡ record { member = 3; bytes = resetImage 3 }
+unfolding openedLedger
+new-ledger = refl
+
+-- where Open refuses the member, that of the record that it returns
+refused-ledger : openedLedger 5 ≡ record { member = 0; bytes = resetImage 0 }
+unfolding openedLedger
+refused-ledger = refl
+
+-- bytes that no ledger holds stay as they are, whatever the call
+no-ledger : (request : Request) (lent : List ℕ) → enteredOf (record { member = 5; bytes = 0x07 ∷ [] }) request lent ≡ record { member = 5; bytes = 0x07 ∷ [] }
+unfolding enteredOf imageOk
+no-ledger request lent = refl
+
+abbrev plain : Request → Call
+plain request = record { request = request; lent = [] }
+
+-- document 01's second bench example, with three settings that fail their conditions and three calls that set nothing: 038Ch is not
+-- writable, 02h at 000h has a reserved bit set, 100h is no level of 8 bits
+calls : List Call
+calls =
+    plain (Register 0x000 0x01) ∷ plain (Register 0x001 0x58) ∷ plain (Lamp 0 2 0x40)
+    ∷ plain (Register 0x38C 0x01) ∷ plain (Register 0x000 0x02) ∷ plain (Lamp 0 2 0x100)
+    ∷ plain Update ∷ plain Reset ∷ plain PowerLost ∷ []
+
+settings-asked : map (λ (a : ℕ). getD (ledger 0 calls) a 0) (0x000 ∷ 0x001 ∷ 0x202 ∷ 0x203 ∷ 0x204 ∷ []) ≡ 0x01 ∷ 0x58 ∷ 0x40 ∷ 0x00 ∷ 0x00 ∷ []
+unfolding calls registerMeets lampMeets okByte writableOf reservedOf reservedAs kindOf linesOf columnsOf hasColumn dotIn isDot numberIn dataMode isWide firstMasks firstMask pwmReserved wideOf topLevel putLevel resetImage table tableFrom resetOf resetAs firstReset switchBytesOf switchReset currentReset
+settings-asked = refl
+
+-- ---- The Clears
+
+-- a record and a chip that are sound, on I2C with pins 0, and the chip is on
+module _ (w : World) (sound : soundOf (w .state) ≡ true) (bus : w .state .bus ≡ 0) (pins : w .state .pins ≡ 0)
+    (chip-sound : Rattle.chip.specs.Chip.soundOf (w .chip) ≡ true) (chip-bus : w .chip .bus ≡ 0) (chip-pins : w .chip .pins ≡ 0)
+    (on : getD (w .chip .registers) 0x000 0 ≡ 0x01) where
+  -- "0Fh to 0A7h": what the list of a Clear opens does to the chip, and the record stays
+  opens-cleared : (clearOpensStep w (replicate 9 0xA5) .world .chip .registers ≡ clearOpens (w .chip .registers)) × (clearOpensStep w (replicate 9 0xA5) .world .state ≡ w .state)
+  unfolding clearOf commandAnswer commandBuffer encode listOf transactionOf headFirst headSecond feedOf feedAnswer sizesGood lengthsGood transactions cutFrom lengths lengthsFrom nOf tOf size16 byteAt applyAll apply decodeOf selected headAddress headWrites headSelect hear hearData hearByte heardByte heard isCommand
+  opens-cleared = rw (sound, bus, pins, chip-sound, chip-bus, chip-pins, on) (refl, refl)
+
+  -- "or to 0A8h."
+  shorts-cleared : (clearShortsStep w (replicate 9 0xA5) .world .chip .registers ≡ clearShorts (w .chip .registers)) × (clearShortsStep w (replicate 9 0xA5) .world .state ≡ w .state)
+  unfolding clearOf commandAnswer commandBuffer encode listOf transactionOf headFirst headSecond feedOf feedAnswer sizesGood lengthsGood transactions cutFrom lengths lengthsFrom nOf tOf size16 byteAt applyAll apply decodeOf selected headAddress headWrites headSelect hear hearData hearByte heardByte heard isCommand
+  shorts-cleared = rw (sound, bus, pins, chip-sound, chip-bus, chip-pins, on) (refl, refl)
