@@ -2,12 +2,12 @@
 -- Assumes nothing.
 use mathlib.Core.Path.{_≡_, refl}
 use mathlib.Core.Bool.{cond, _||_}
-use mathlib.Core.List.{[], _∷_}
+use mathlib.Core.List.{List, [], _∷_}
 use Prim.Native.Nat.{ℕ}
 use lib.Dec.{ltb, eqb}
 use lib.ListN.{set, replicate}
 use Rattle.plan.specs.Plan.{Mark, hole, clean, dirty, scan, plan}
-use Rattle.plan.specs.Update.{valueAt, updateFor}
+use Rattle.plan.specs.Update.{valueAt, seen, updateFor}
 
 -- all addresses writable, only a and b differ
 only : ℕ → ℕ → ℕ → Mark
@@ -33,10 +33,13 @@ unfolding plan scan broken only
 hole-ends = refl
 
 -- "000h = 01h, 001h = 58h, Lamp (0, 2, 40h), Update", from a chip of zeros: 01h to 000h alone comes first.
-enables-first : updateFor (λ a. ltb a 908) 908 (set (set (set (replicate 908 0) 0x000 0x01) 0x001 0x58) 0x202 0x40) (valueAt (replicate 908 0))
+wanted : List ℕ
+wanted = set (set (set (replicate 908 0) 0x000 0x01) 0x001 0x58) 0x202 0x40
+
+enables-first : updateFor (λ a. ltb a 908) 908 wanted (seen (valueAt wanted) (valueAt (replicate 908 0)))
     ≡ record { start = 0x000; bytes = 0x01 ∷ [] }
     ∷ record { start = 0x001; bytes = 0x58 ∷ [] }
     ∷ record { start = 0x202; bytes = 0x40 ∷ [] }
     ∷ []
-unfolding updateFor plan scan
+unfolding updateFor plan scan wanted
 enables-first = refl
