@@ -252,8 +252,8 @@ module _ (m b p : ℕ) (o : opens m b p ≡ true) (calls before : List Call) (bu
     unfolding writesOf
     nothing-left =
         ap writesOf state-is
-        ∙ update-again (writableOf m) 908 (machine m) (ledger m before) (held .image) (held .registers)
-        (ready m b p o (ledger m before) (held .image) (held .registers) (held .settings-fit) (held .image-fit) (held .registers-fit) (held .same))
+        ∙ update-again (writableOf m) 908 (ledger m before) (held .image)
+        (ready m b p o (ledger m before) (held .image) (held .registers) (held .settings-fit) (held .image-fit) (held .registers-fit) (held .same) .images)
 
     answer-again : (size : ℕ) → updateOf (worldAfter m b p calls .state) size .answer ≡ cond (leb 4 size) (Listed 0 0) (Short 4)
     unfolding updateOf

@@ -11,7 +11,6 @@ use lib.ListN.{length, take, drop}
 use Rattle.map.specs.Refusals.{openAnswer, opens}
 use Rattle.map.specs.RefusalLaws.{opens-member}
 use Rattle.map.specs.Map.{writableOf}
-use Rattle.map.specs.ByteLaws.{enable-reset}
 use Rattle.map.specs.Images.{resetImage}
 use Rattle.map.specs.ImageLaws.{Fit, Image, Registers, ok-image}
 use Rattle.burst.specs.Burst.{Burst, busBytes, encode}
@@ -19,14 +18,14 @@ use Rattle.burst.specs.BurstLaws.{AllNamed, encode-length}
 use Rattle.plan.specs.Writes.{AllGood}
 use Rattle.plan.specs.Update.{valueAt, Same, storeAll, writeOf}
 use Rattle.plan.specs.Machine.{Machine, feedBy, Ready}
-use Rattle.plan.specs.Follow.{follows}
+use Rattle.plan.specs.MachineLaws.{machine-best}
 use Rattle.host.specs.declared.Record.{Record}
 use Rattle.host.specs.declared.Changed.{Changed}
 use Rattle.host.specs.Record.{recordOf, soundOf, whenSound, settled, opened, openState, openOf, registerOf, lampOf, groupOf, switchOf, sceneOf, soundAnswer, powerLostOf}
-use Rattle.host.specs.SoundLaws.{Sound, is-sound, reset-fits, reset-image, register-sound, lamp-sound, group-sound, switch-sound, scene-sound}
+use Rattle.host.specs.SoundLaws.{Sound, is-sound, reset-image, register-sound, lamp-sound, group-sound, switch-sound, scene-sound}
 use Rattle.update.specs.declared.ListAnswer.{ListAnswer}
 use Rattle.update.specs.declared.ListAnswer.the-variants.{Listed, Short, Refused}
-use Rattle.update.specs.Update.{isListed, listSize, over, writesOf, updateAnswer, updateImage, updateOf, updateBuffer, commandWrite, commandAnswer, commandBuffer, chipResetOf, resetBuffer}
+use Rattle.update.specs.Update.{isListed, listSize, over, chipView, writesOf, updateAnswer, updateImage, updateOf, updateBuffer, commandWrite, commandAnswer, commandBuffer, chipResetOf, resetBuffer}
 use Rattle.update.specs.UpdateLaws.{enable-byte, image-layout, store-image, update-fits}
 use Rattle.update.specs.BoundLaws.{update-sendable, names-writable}
 use Rattle.chip.specs.declared.Chip.{Chip}
@@ -203,14 +202,15 @@ module _ (m b p : ℕ) (o : opens m b p ≡ true) where
 
     pub ready : Ready (writableOf m) 908 (machine m) s image registers
     ready = record {
-      layout = image-layout m s fs;
-      size = fi .size;
+      images = record {
+        layout = image-layout m s fs;
+        size = fi .size;
+        want-enable = enable-byte m (valueAt s 0) (fs .member) (fs .fits 0 (omega arith));
+        have-enable = enable-byte m (valueAt image 0) (fi .member) (fi .fits 0 (omega arith));
+      };
       same = same;
       sound = fr;
       fit = λ a l k. fs .fits a l;
-      fit-off = subst (Fit m 0) (enable-reset m) (reset-fits m 0);
-      want-enable = enable-byte m (valueAt s 0) (fs .member) (fs .fits 0 (omega arith));
-      have-enable = enable-byte m (valueAt image 0) (fi .member) (fi .fits 0 (omega arith));
     }
 
     updated-holds : Holds m b p s (worldOf m b p s (storeAll (writesOf state) image) (hearAll m registers (writesOf state)))
@@ -220,9 +220,11 @@ module _ (m b p : ℕ) (o : opens m b p ≡ true) where
       registers = hearAll m registers (writesOf state);
       is = refl;
       settings-fit = fs;
-      image-fit = store-image m (writesOf state) (update-fits m s fs (valueAt image)) image fi;
+      image-fit = store-image m (writesOf state) (update-fits m s fs (chipView s image)) image fi;
       registers-fit = hear-all-registers m registers (writesOf state) fr;
-      same = λ a l k. follows (writableOf m) 908 (machine m) s image registers ready a l k ∙ ap (λ (rs : List ℕ). valueAt rs a) (sym (hear-all-is m registers (writesOf state)));
+      same = λ a l k.
+          machine-best (writableOf m) 908 (machine m) s image registers ready .follows a l k
+          ∙ ap (λ (rs : List ℕ). valueAt rs a) (sym (hear-all-is m registers (writesOf state)));
     }
 
     -- a list of these writes that is fed

@@ -1,60 +1,24 @@
--- The host's image, with the data bytes at their addresses, is again the chip; and it has then the settings that are on.
+-- The update's list is heard to the last byte: the host's image, with the data bytes at their addresses, is again the chip. And it
+-- has then the settings that are on.
 -- Assumes nothing.
 use mathlib.Core.Path.{_≡_, refl, sym, ap, _∙_, subst}
 use mathlib.Core.Logic.{_⊎_, inl, inr}
 use mathlib.Core.Bool.{Bool, true, false}
 use mathlib.Core.List.{List, [], _∷_, _++_, map}
-use Prim.Native.Nat.{ℕ, zero, suc, _+_, _-_, _%_, _≤_, _<_}
+use Prim.Native.Nat.{ℕ, _+_, _-_, _≤_, _<_}
 use native.Mathlib.Decide.{ℕ-discrete, decLt}
 use native.Mathlib.Omega.{arith}
-use borrow.Author.Tests.{eqb-true}
-use lib.Dec.{eqb}
-use lib.ListN.{length, getD}
+use lib.ListN.{length}
 use lib.Seq.{sets, length-sets}
 use Rattle.burst.specs.Burst.{Burst}
 use Rattle.plan.specs.Lists.{sets-outside, sets-inside}
-use Rattle.plan.specs.Plan.{dirty, Write, plan}
+use Rattle.plan.specs.Plan.{Write, plan}
 use Rattle.plan.specs.Writes.{Good, AllGood, Inside, Sent}
 use Rattle.plan.specs.PlanLaws.{plan-sends}
-use Rattle.plan.specs.Update.{valueAt, Same, markAt, marksFor, onBy, dataOf, enableWrite, enable, updateBy, storeAll, writeOf}
-use Rattle.plan.specs.UpdateLaws.{data-length, data-at, write-back, good-enable, plan-ok, update-on, update-off}
-use Rattle.plan.specs.Machine.{Machine, feedBy, Ready, sent}
-
--- a byte of 0 or 1 whose bit 0 is 1
-one-is : (v : ℕ) → eqb (v % 2) 1 ≡ true → v ≤ 1 → v ≡ 1
-one-is v e l = omega (arith, eqb-true (v % 2) 1 e)
-
--- ---- one transaction
-
-module _ (ok : ℕ → Bool) (n : ℕ) (M : Machine ok n) where
-  pub feed-stays : (bs : List Burst) (s : M .State) → AllGood ok n (map writeOf bs) → M .Sound s → M .Sound (feedBy ok n M s bs)
-  feed-stays [] s g z = z
-  feed-stays (b ∷ bs) s g z = feed-stays bs (M .hear s b) (g .1) (M .keeps s b (g .0) z)
-
-  pub feed-append : (xs ys : List Burst) (s : M .State) → feedBy ok n M s (xs ++ ys) ≡ feedBy ok n M (feedBy ok n M s xs) ys
-  feed-append [] ys s = refl
-  feed-append (b ∷ xs) ys s = feed-append xs ys (M .hear s b)
-
-  -- data bytes that the chip stores, stored in the image too
-  follow-one : (s : M .State) (b : Burst) (image : List ℕ) → Good ok n (writeOf b) → M .Sound s → length image ≡ n →
-      ((i : ℕ) → i < length (b .bytes) → M .Fit (b .start + i) (getD (b .bytes) i 0)) →
-      ((i : ℕ) → i < length (b .bytes) → (onBy (M .byte s) ≡ true) ⊎ (b .start + i ≡ 0)) →
-      Same ok n (valueAt image) (M .byte s) → Same ok n (valueAt (sets image (b .start) (b .bytes))) (M .byte (M .hear s b))
-  follow-one s b image g z size fit on same a l k = go (decLt a (b .start)) (decLt a (b .start + length (b .bytes)))
-    where
-      kept : (a < b .start) ⊎ (b .start + length (b .bytes) ≤ a) → getD (sets image (b .start) (b .bytes)) a 0 ≡ M .byte (M .hear s b) a
-      kept p = sets-outside (b .bytes) image (b .start) a p ∙ same a l k ∙ sym (M .outside s b g a k p)
-
-      stored : (i : ℕ) → i < length (b .bytes) → getD (sets image (b .start) (b .bytes)) (b .start + i) 0 ≡ M .byte (M .hear s b) (b .start + i)
-      stored i h =
-          sets-inside (b .bytes) image (b .start) i h (omega (arith, g .fits, size)) ∙ sym (M .stores s b g z i h (fit i h) (on i h))
-
-      go : Dec (a < b .start) → Dec (a < b .start + length (b .bytes)) → getD (sets image (b .start) (b .bytes)) a 0 ≡ M .byte (M .hear s b) a
-      go (yes p) q = kept (inl p)
-      go (no p) (no q) = kept (inr (omega arith))
-      go (no p) (yes q) =
-          subst (λ (x : ℕ). getD (sets image (b .start) (b .bytes)) x 0 ≡ M .byte (M .hear s b) x)
-          (omega arith) (stored (a - b .start) (omega arith))
+use Rattle.plan.specs.Update.{valueAt, Same, marksFor, onBy, View, dataOf, enableWrite, enable, updateBy, updateFor, storeAll, Images}
+use Rattle.plan.specs.UpdateLaws.{on-same, one-is, differs-dirty, Allows, data-length, data-at, plan-ok, update-on, update-off, update-good, update-fitting}
+use Rattle.plan.specs.Machine.{Machine, feedBy, Ready}
+use Rattle.plan.specs.Heard.{Hears, Heard, follow-heard}
 
 pub store-append : (xs ys : List Burst) (image : List ℕ) → storeAll (xs ++ ys) image ≡ storeAll ys (storeAll xs image)
 store-append [] ys image = refl
@@ -108,102 +72,63 @@ module _ (ok : ℕ → Bool) (n : ℕ) (settings : List ℕ) (size : length sett
       go (inl (inr p)) = inl p
       go (inr p) = inr (image-one w (g .0) image l a (inr p))
 
-  module _ (M : Machine ok n) (fit : (a : ℕ) → a < n → ok a ≡ true → M .Fit a (valueAt settings a))
-      (on : onBy (valueAt settings) ≡ true) (z : 0 < n) (enable-ok : ok 0 ≡ true) where
-    -- a chip that is on follows the image
-    follow-all : (ws : List Write) → AllGood ok n ws → (s : M .State) (image : List ℕ) → M .Sound s → length image ≡ n →
-        valueAt image 0 ≡ valueAt settings 0 → Same ok n (valueAt image) (M .byte s) →
-        Same ok n (valueAt (storeAll (map (dataOf settings) ws) image)) (M .byte (feedBy ok n M s (map (dataOf settings) ws)))
-    follow-all [] g s image sound l e same = same
-    follow-all (w ∷ ws) g s image sound l e same =
-        follow-all ws (g .1) (M .hear s (dataOf settings w)) (sets image (w .start) (dataOf settings w .bytes))
-        (M .keeps s (dataOf settings w) good sound) (length-sets image (w .start) (dataOf settings w .bytes) ∙ l)
-        (image-one w (g .0) image l 0 (inr e))
-        (follow-one ok n M s (dataOf settings w) image good sound l fitting (λ i h. inl chip-on) same)
-      where
-        fits : w .start + w .len ≤ length settings
-        fits = omega (arith, g .0 .fits, size)
+  -- the writes of a plan to a chip that is on are heard, if the settings are on too
+  plan-heard : onBy (valueAt settings) ≡ true → (ws : List Write) → AllGood ok n ws → (image : List ℕ) → length image ≡ n →
+      valueAt image 0 ≡ valueAt settings 0 → Heard image (map (dataOf settings) ws)
+  plan-heard o [] g image l e = tt
+  plan-heard o (w ∷ ws) g image l e = (
+    λ i h. inl (on-same (valueAt image) (valueAt settings) e ∙ o),
+    plan-heard o ws (g .1) (sets image (w .start) (dataOf settings w .bytes))
+        (length-sets image (w .start) (dataOf settings w .bytes) ∙ l) (image-one w (g .0) image l 0 (inr e)),
+  )
 
-        good : Good ok n (writeOf (dataOf settings w))
-        good = rw (write-back settings w fits) (g .0)
+-- ---- the whole list, by any view that is true of a chip with the image's bytes
 
-        chip-on : onBy (M .byte s) ≡ true
-        chip-on = ap (λ (v : ℕ). eqb (v % 2) 1) (sym (same 0 z enable-ok) ∙ e) ∙ on
+module _ (ok : ℕ → Bool) (n : ℕ) (settings image : List ℕ) (r : Images ok n settings image)
+    (v : View) (t : Allows ok n (valueAt settings) v (valueAt image)) where
+  abbrev ws : List Write
+  ws = plan (marksFor ok (v .same)) n
 
-        fitting : (i : ℕ) → i < length (dataOf settings w .bytes) → M .Fit (w .start + i) (getD (dataOf settings w .bytes) i 0)
-        fitting i h =
-            let k : i < w .len = omega (arith, data-length settings w fits) in
-            rw (data-at settings w fits i k) (fit (w .start + i) (omega (arith, g .0 .fits)) (g .0 .each (w .start + i) (omega arith) (omega arith)))
-
--- ---- the whole list
-
-module _ (ok : ℕ → Bool) (n : ℕ) (M : Machine ok n) (settings image : List ℕ) (s : M .State) (r : Ready ok n M settings image s) where
-  -- the image and the chip after the enabling write, if there is one
-  record Begun (image₁ : List ℕ) (c : M .State) : Type 0 where
-    size : length image₁ ≡ n
-    sound : M .Sound c
-    first : valueAt image₁ 0 ≡ 1
-    rest : (a : ℕ) → 0 < a → valueAt image₁ a ≡ valueAt image a
-    same : Same ok n (valueAt image₁) (M .byte c)
-
-  -- one byte to 000h is heard in standby too
-  pub follow-enable : (v : ℕ) → M .Fit 0 v → Same ok n (valueAt (sets image 0 (v ∷ []))) (M .byte (M .hear s (enableWrite v)))
-  follow-enable v f =
-      follow-one ok n M s (enableWrite v) image (good-enable ok n settings (r .layout) v) (r .sound) (r .size)
-      (λ i h. let e : i ≡ 0 = omega arith in rw e f) (λ i h. inr (omega arith)) (r .same)
+  planned : AllGood ok n ws
+  planned = plan-ok ok n settings (r .layout) v
 
   want-one : onBy (valueAt settings) ≡ true → valueAt settings 0 ≡ 1
   want-one o = one-is (valueAt settings 0) o (r .want-enable)
 
-  begun : onBy (valueAt settings) ≡ true → (o : Bool) → onBy (valueAt image) ≡ o → Begun (storeAll (enable o) image) (feedBy ok n M s (enable o))
-  begun o true e = record {
-    size = r .size;
-    sound = r .sound;
-    first = one-is (valueAt image 0) e (r .have-enable);
-    rest = λ a h. refl;
-    same = r .same;
-  }
-  begun o false e = record {
+  -- the image after the enabling write, if there is one
+  record Begun (image₁ : List ℕ) : Type 0 where
+    size : length image₁ ≡ n
+    first : valueAt image₁ 0 ≡ 1
+    rest : (a : ℕ) → 0 < a → valueAt image₁ a ≡ valueAt image a
+
+  begun : (o : Bool) → v .sure ≡ o → Begun (storeAll (enable o) image)
+  begun true e = record { size = r .size; first = one-is (valueAt image 0) (t .on e) (r .have-enable); rest = λ a h. refl }
+  begun false e = record {
     size = length-sets image 0 (1 ∷ []) ∙ r .size;
-    sound = M .keeps s (enableWrite 1) (good-enable ok n settings (r .layout) 1) (r .sound);
     first = sets-inside (1 ∷ []) image 0 0 (omega arith) (omega (arith, r .size, r .layout .some));
     rest = λ a h. sets-outside (1 ∷ []) image 0 a (inr (omega arith));
-    same = follow-enable 1 (subst (M .Fit 0) (want-one o) (r .fit 0 (r .layout .some) (r .layout .enable-ok)));
   }
 
   -- the differing addresses from 001h up are sent
-  sent-or-right : (a : ℕ) → 0 < a → a < n → ok a ≡ true →
-      Sent (plan (marksFor ok (valueAt settings) (valueAt image)) n) a ⊎ (valueAt image a ≡ valueAt settings a)
-  sent-or-right zero z l k = absurd (omega arith)
-  sent-or-right (suc a) z l k = go (eqb (valueAt image (suc a)) (valueAt settings (suc a))) refl
+  sent-or-right : (a : ℕ) → 0 < a → a < n → ok a ≡ true → Sent ws a ⊎ (valueAt image a ≡ valueAt settings a)
+  sent-or-right a z l k = go (v .same a) refl
     where
-      differs : (b e : Bool) → b ≡ true → e ≡ false → markAt b e ≡ dirty
-      differs true true t p = cc
-      differs true false t p = refl
-      differs false e t p = cc
-
-      go : (b : Bool) → eqb (valueAt image (suc a)) (valueAt settings (suc a)) ≡ b →
-          Sent (plan (marksFor ok (valueAt settings) (valueAt image)) n) (suc a) ⊎ (valueAt image (suc a) ≡ valueAt settings (suc a))
-      go true e = inr (eqb-true (valueAt image (suc a)) (valueAt settings (suc a)) e)
-      go false e =
-          inl (plan-sends (marksFor ok (valueAt settings) (valueAt image)) n (suc a) l
-          (differs (ok (suc a)) (eqb (valueAt image (suc a)) (valueAt settings (suc a))) k e))
+      go : (b : Bool) → v .same a ≡ b → Sent ws a ⊎ (valueAt image a ≡ valueAt settings a)
+      go true e = inr (t .right a l k e)
+      go false e = inl (plan-sends (marksFor ok (v .same)) n a l (differs-dirty ok (v .same) a (record { past = z; may = k; differs = e })))
 
   -- settings that are on are then in the image
-  pub image-reaches : onBy (valueAt settings) ≡ true → Same ok n (valueAt (storeAll (sent ok n M settings image s) image)) (valueAt settings)
+  pub image-reaches : onBy (valueAt settings) ≡ true → Same ok n (valueAt (storeAll (updateFor ok n settings v) image)) (valueAt settings)
   image-reaches o a l k =
-      ap (λ (bs : List Burst). valueAt (storeAll bs image) a) (update-on ok n settings (r .layout) (valueAt image) o)
-      ∙ ap (λ (x : List ℕ). valueAt x a) (store-append (enable (onBy (valueAt image))) (map (dataOf settings) ws) image)
-      ∙ image-all ok n settings (r .layout .size) ws (plan-ok ok n settings (r .layout) (valueAt image)) image₁ (b .size) a (go (ℕ-discrete a 0))
+      ap (λ (bs : List Burst). valueAt (storeAll bs image) a) (update-on ok n settings (r .layout) v o)
+      ∙ ap (λ (x : List ℕ). valueAt x a) (store-append (enable (v .sure)) (map (dataOf settings) ws) image)
+      ∙ image-all ok n settings (r .layout .size) ws planned image₁ (b .size) a (go (ℕ-discrete a 0))
     where
-      ws : List Write
-      ws = plan (marksFor ok (valueAt settings) (valueAt image)) n
-
       image₁ : List ℕ
-      image₁ = storeAll (enable (onBy (valueAt image))) image
+      image₁ = storeAll (enable (v .sure)) image
 
-      b : Begun image₁ (feedBy ok n M s (enable (onBy (valueAt image))))
-      b = begun o (onBy (valueAt image)) refl
+      b : Begun image₁
+      b = begun (v .sure) refl
 
       by : 0 < a → Sent ws a ⊎ (valueAt image a ≡ valueAt settings a) → Sent ws a ⊎ (valueAt image₁ a ≡ valueAt settings a)
       by h (inl p) = inl p
@@ -213,40 +138,38 @@ module _ (ok : ℕ → Bool) (n : ℕ) (M : Machine ok n) (settings image : List
       go (yes e) = inr (rw e (b .first ∙ sym (want-one o)))
       go (no e) = by (omega arith) (sent-or-right a (omega arith) l k)
 
-  follows-on : onBy (valueAt settings) ≡ true →
-      Same ok n (valueAt (storeAll (sent ok n M settings image s) image)) (M .byte (feedBy ok n M s (sent ok n M settings image s)))
-  follows-on o =
-      subst (λ (bs : List Burst). Same ok n (valueAt (storeAll bs image)) (M .byte (feedBy ok n M s bs)))
-      (sym (update-on ok n settings (r .layout) (valueAt image) o))
-      (rw (store-append first (map (dataOf settings) ws) image, feed-append ok n M first (map (dataOf settings) ws) s)
-      (follow-all ok n settings (r .layout .size) M (r .fit) o (r .layout .some) (r .layout .enable-ok) ws
-      (plan-ok ok n settings (r .layout) (valueAt image)) (feedBy ok n M s first) (storeAll first image)
-      (b .sound) (b .size) (b .first ∙ sym (want-one o)) (b .same)))
+  -- every data byte is heard
+  pub update-heard : Heard image (updateFor ok n settings v)
+  update-heard = go (onBy (valueAt settings)) refl
     where
-      ws : List Write
-      ws = plan (marksFor ok (valueAt settings) (valueAt image)) n
+      first : (x : ℕ) → Hears (valueAt image) (enableWrite x)
+      first x i h = inr (omega arith)
 
-      first : List Burst
-      first = enable (onBy (valueAt image))
+      on : onBy (valueAt settings) ≡ true → (c : Bool) → Begun (storeAll (enable c) image) → Heard image (enable c ++ map (dataOf settings) ws)
+      on o true b = plan-heard ok n settings (r .layout .size) o ws planned image (b .size) (b .first ∙ sym (want-one o))
+      on o false b = (
+        first 0x01,
+        plan-heard ok n settings (r .layout .size) o ws planned (storeAll (enable false) image) (b .size) (b .first ∙ sym (want-one o)),
+      )
 
-      b : Begun (storeAll first image) (feedBy ok n M s first)
-      b = begun o (onBy (valueAt image)) refl
+      off : (c : Bool) → Heard image (updateBy false (v .sure) c [])
+      off true = (first 0x00, tt)
+      off false = tt
 
+      go : (w : Bool) → onBy (valueAt settings) ≡ w → Heard image (updateFor ok n settings v)
+      go true o = subst (Heard image) (sym (update-on ok n settings (r .layout) v o)) (on o (v .sure) (begun (v .sure) refl))
+      go false o = subst (Heard image) (sym (update-off ok n settings (r .layout) v o)) (off (v .perhaps))
+
+module _ (ok : ℕ → Bool) (n : ℕ) (M : Machine ok n) (settings image : List ℕ) (s : M .State) (r : Ready ok n M settings image s)
+    (v : View) (t : Allows ok n (valueAt settings) v (valueAt image)) where
   -- the image with the data bytes at their addresses is the chip after the list
-  pub follows : Same ok n (valueAt (storeAll (sent ok n M settings image s) image)) (M .byte (feedBy ok n M s (sent ok n M settings image s)))
-  follows = go (onBy (valueAt settings)) (onBy (valueAt image)) refl refl
-    where
-      off : (c : Bool) → Same ok n (valueAt (storeAll (updateBy false c []) image)) (M .byte (feedBy ok n M s (updateBy false c [])))
-      off true = follow-enable 0 (r .fit-off)
-      off false = r .same
-
-      go : (w c : Bool) → onBy (valueAt settings) ≡ w → onBy (valueAt image) ≡ c →
-          Same ok n (valueAt (storeAll (sent ok n M settings image s) image)) (M .byte (feedBy ok n M s (sent ok n M settings image s)))
-      go true c e f = follows-on e
-      go false c e f =
-          subst (λ (bs : List Burst). Same ok n (valueAt (storeAll bs image)) (M .byte (feedBy ok n M s bs)))
-          (sym (update-off ok n settings (r .layout) (valueAt image) e)) (off (onBy (valueAt image)))
+  pub follows : Same ok n (valueAt (storeAll (updateFor ok n settings v) image)) (M .byte (feedBy ok n M s (updateFor ok n settings v)))
+  follows =
+      follow-heard ok n M (r .images .layout .some) (r .images .layout .enable-ok) (updateFor ok n settings v) s image
+      (update-good ok n settings (r .images .layout) v)
+      (update-fitting ok n settings (r .images .layout) (M .Fit) (r .fit) (r .images .want-enable) v)
+      (update-heard ok n settings image (r .images) v t) (r .sound) (r .images .size) (r .same)
 
   -- and so settings that are on are then in the chip
-  pub reaches : onBy (valueAt settings) ≡ true → Same ok n (M .byte (feedBy ok n M s (sent ok n M settings image s))) (valueAt settings)
-  reaches o a l k = sym (follows a l k) ∙ image-reaches o a l k
+  pub reaches : onBy (valueAt settings) ≡ true → Same ok n (M .byte (feedBy ok n M s (updateFor ok n settings v))) (valueAt settings)
+  reaches o a l k = sym (follows a l k) ∙ image-reaches ok n settings image (r .images) v t o a l k

@@ -1,123 +1,67 @@
--- From a list on the bus to a list of writes that sends every dirty address: the transactions that the chip heard. With the law
--- `covered` a claim that no rival is cheaper is a claim about lists of writes and marks alone.
+-- A list all of whose data bytes are heard: storing it into the image is what hearing it does to the chip. Whether a byte is heard
+-- depends on the writes before it alone.
 -- Assumes nothing.
-use mathlib.Core.Path.{_≡_, refl, sym, ap, _∙_}
+use mathlib.Core.Path.{_≡_, sym, _∙_, subst}
 use mathlib.Core.Logic.{_⊎_, inl, inr}
-use mathlib.Core.Bool.{Bool, true, false, false≢true}
+use mathlib.Core.Bool.{Bool, true}
 use mathlib.Core.List.{List, [], _∷_, map}
-use Prim.Native.Nat.{ℕ, zero, suc, _+_, _%_, _≤_, _<_}
+use Prim.Native.Nat.{ℕ, _+_, _-_, _≤_, _<_}
 use native.Mathlib.Decide.{decLt}
 use native.Mathlib.Omega.{arith}
-use borrow.Author.Tests.{eq-eqb}
-use lib.Dec.{eqb}
-use lib.ListN.{length}
+use lib.ListN.{length, getD}
+use lib.Seq.{sets, length-sets}
 use Rattle.burst.specs.Burst.{Burst}
-use Rattle.plan.specs.Lists.{All}
-use Rattle.plan.specs.Plan.{dirty, Write, costBy}
-use Rattle.plan.specs.Writes.{Good, AllGood, Inside, Sent, SendsAll}
-use Rattle.plan.specs.Update.{Same, markAt, marksFor, onBy, writeOf, enableCost}
+use Rattle.plan.specs.Lists.{All, sets-outside, sets-inside}
+use Rattle.plan.specs.Writes.{Good, AllGood}
+use Rattle.plan.specs.Update.{valueAt, Same, onBy, storeAll, writeOf}
+use Rattle.plan.specs.UpdateLaws.{on-same, Fitting}
 use Rattle.plan.specs.Machine.{Machine, feedBy}
 
-abbrev consIf : Bool → Write → List Write → List Write
-consIf true w ws = w ∷ ws
-consIf false w ws = ws
+-- a chip with these bytes hears every data byte of a write: it is on as the write starts, or the byte is for 000h
+abbrev pub Hears : (ℕ → ℕ) → Burst → Type 0
+Hears have b = (i : ℕ) → i < length (b .bytes) → (onBy have ≡ true) ⊎ (b .start + i ≡ 0)
+
+-- and so every write of a list, with the image as it is when the write starts
+abbrev pub Heard : List ℕ → List Burst → Type 0
+Heard image [] = Unit
+Heard image (b ∷ bs) = Hears (valueAt image) b × Heard (sets image (b .start) (b .bytes)) bs
 
 module _ (ok : ℕ → Bool) (n : ℕ) (M : Machine ok n) where
-  -- the transactions that begin while the chip is on
-  unfoldable pub heardOf : M .State → List Burst → List Write
-  heardOf s [] = []
-  heardOf s (b ∷ bs) = consIf (onBy (M .byte s)) (writeOf b) (heardOf (M .hear s b) bs)
+  pub feed-stays : (bs : List Burst) (s : M .State) → AllGood ok n (map writeOf bs) → M .Sound s → M .Sound (feedBy ok n M s bs)
+  feed-stays [] s g z = z
+  feed-stays (b ∷ bs) s g z = feed-stays bs (M .hear s b) (g .1) (M .keeps s b (g .0) z)
 
-  heard-one : (s : M .State) (b : Burst) → Good ok n (writeOf b) → (a : ℕ) → ok a ≡ true → 0 < a → (rest : List Write) (v : ℕ) →
-      (o : Bool) → onBy (M .byte s) ≡ o → Sent rest a ⊎ (v ≡ M .byte (M .hear s b) a) →
-      Dec (a < b .start) → Dec (a < b .start + length (b .bytes)) → Sent (consIf o (writeOf b) rest) a ⊎ (v ≡ M .byte s a)
-  heard-one s b g a t z rest v true e (inl p) x y = inl (inr p)
-  heard-one s b g a t z rest v true e (inr p) (yes l) y = inr (p ∙ M .outside s b g a t (inl l))
-  heard-one s b g a t z rest v true e (inr p) (no l) (yes q) = inl (inl (omega arith, q))
-  heard-one s b g a t z rest v true e (inr p) (no l) (no q) = inr (p ∙ M .outside s b g a t (inr (omega arith)))
-  heard-one s b g a t z rest v false e (inl p) x y = inl p
-  heard-one s b g a t z rest v false e (inr p) x y = inr (p ∙ M .standby s b g e a z t)
-
-  -- a writable address but 000h is sent by a heard transaction, or has the value that it had
-  pub heard-or-same : (bs : List Burst) (s : M .State) → AllGood ok n (map writeOf bs) → (a : ℕ) → ok a ≡ true → 0 < a →
-      Sent (heardOf s bs) a ⊎ (M .byte (feedBy ok n M s bs) a ≡ M .byte s a)
-  unfolding heardOf
-  heard-or-same [] s g a t z = inr refl
-  heard-or-same (b ∷ bs) s g a t z =
-      heard-one s b (g .0) a t z (heardOf (M .hear s b) bs) (M .byte (feedBy ok n M (M .hear s b) bs) a) (onBy (M .byte s)) refl
-      (heard-or-same bs (M .hear s b) (g .1) a t z) (decLt a (b .start)) (decLt a (b .start + length (b .bytes)))
-
-  -- what holds of every transaction holds of those that are heard
-  pub heard-among : (P : Write → Type 0) (bs : List Burst) (s : M .State) → All P (map writeOf bs) → All P (heardOf s bs)
-  unfolding heardOf
-  heard-among P [] s h = tt
-  heard-among P (b ∷ bs) s h = go (onBy (M .byte s)) (heard-among P bs (M .hear s b) (h .1))
+  -- data bytes that the chip stores, stored in the image too
+  follow-one : (s : M .State) (b : Burst) (image : List ℕ) → Good ok n (writeOf b) → Fitting (M .Fit) n b → Hears (M .byte s) b →
+      M .Sound s → length image ≡ n → Same ok n (valueAt image) (M .byte s) →
+      Same ok n (valueAt (sets image (b .start) (b .bytes))) (M .byte (M .hear s b))
+  follow-one s b image g f on z size same a l k = go (decLt a (b .start)) (decLt a (b .start + length (b .bytes)))
     where
-      go : (o : Bool) → All P (heardOf (M .hear s b) bs) → All P (consIf o (writeOf b) (heardOf (M .hear s b) bs))
-      go true r = (h .0, r)
-      go false r = r
+      kept : (a < b .start) ⊎ (b .start + length (b .bytes) ≤ a) → getD (sets image (b .start) (b .bytes)) a 0 ≡ M .byte (M .hear s b) a
+      kept p = sets-outside (b .bytes) image (b .start) a p ∙ same a l k ∙ sym (M .outside s b g a k p)
 
-  -- and what is heard is sent
-  pub heard-sent : (bs : List Burst) (s : M .State) (a : ℕ) → Sent (heardOf s bs) a → Sent (map writeOf bs) a
-  unfolding heardOf
-  heard-sent [] s a h = h
-  heard-sent (b ∷ bs) s a h = go (heard-sent bs (M .hear s b) a) (onBy (M .byte s)) h
+      stored : (i : ℕ) → i < length (b .bytes) → getD (sets image (b .start) (b .bytes)) (b .start + i) 0 ≡ M .byte (M .hear s b) (b .start + i)
+      stored i h =
+          sets-inside (b .bytes) image (b .start) i h (omega (arith, g .fits, size)) ∙ sym (M .stores s b g z i h (f .fits i h) (on i h))
+
+      go : Dec (a < b .start) → Dec (a < b .start + length (b .bytes)) → getD (sets image (b .start) (b .bytes)) a 0 ≡ M .byte (M .hear s b) a
+      go (yes p) q = kept (inl p)
+      go (no p) (no q) = kept (inr (omega arith))
+      go (no p) (yes q) =
+          subst (λ (x : ℕ). getD (sets image (b .start) (b .bytes)) x 0 ≡ M .byte (M .hear s b) x)
+          (omega arith) (stored (a - b .start) (omega arith))
+
+  -- the image follows the chip through a list that is heard
+  pub follow-heard : 0 < n → ok 0 ≡ true → (bs : List Burst) (s : M .State) (image : List ℕ) → AllGood ok n (map writeOf bs) →
+      All (Fitting (M .Fit) n) bs → Heard image bs → M .Sound s → length image ≡ n → Same ok n (valueAt image) (M .byte s) →
+      Same ok n (valueAt (storeAll bs image)) (M .byte (feedBy ok n M s bs))
+  follow-heard z k [] s image g f h sound size same = same
+  follow-heard z k (b ∷ bs) s image g f h sound size same =
+      follow-heard z k bs (M .hear s b) (sets image (b .start) (b .bytes)) (g .1) (f .1) (h .1) (M .keeps s b (g .0) sound)
+      (length-sets image (b .start) (b .bytes) ∙ size)
+      (follow-one s b image (g .0) (f .0) hears sound size same)
     where
-      go : (Sent (heardOf (M .hear s b) bs) a → Sent (map writeOf bs) a) → (o : Bool) →
-          Sent (consIf o (writeOf b) (heardOf (M .hear s b) bs)) a → Inside (writeOf b) a ⊎ Sent (map writeOf bs) a
-      go r true (inl p) = inl p
-      go r true (inr p) = inr (r p)
-      go r false p = inr (r p)
-
-  heard-cost : (h : ℕ) (bs : List Burst) (s : M .State) → costBy h (heardOf s bs) ≤ costBy h (map writeOf bs)
-  unfolding heardOf
-  heard-cost h [] s = omega arith
-  heard-cost h (b ∷ bs) s = go (onBy (M .byte s)) (heard-cost h bs (M .hear s b))
-    where
-      go : (o : Bool) → costBy h (heardOf (M .hear s b) bs) ≤ costBy h (map writeOf bs) →
-          costBy h (consIf o (writeOf b) (heardOf (M .hear s b) bs)) ≤ h + length (b .bytes) + costBy h (map writeOf bs)
-      go true r = omega arith
-      go false r = omega arith
-
-  -- from standby to on, one transaction at least is not heard
-  heard-costs : (h : ℕ) (o : Bool) (s : M .State) (bs : List Burst) → AllGood ok n (map writeOf bs) → onBy (M .byte s) ≡ o →
-      onBy (M .byte (feedBy ok n M s bs)) ≡ true → enableCost h o + costBy h (heardOf s bs) ≤ costBy h (map writeOf bs)
-  unfolding heardOf
-  heard-costs h true s bs g e t = omega (arith, heard-cost h bs s)
-  heard-costs h false s [] g e t = absurd (false≢true (sym e ∙ t))
-  heard-costs h false s (b ∷ bs) g e t =
-      let q : costBy h (heardOf s (b ∷ bs)) ≡ costBy h (heardOf (M .hear s b) bs)
-      = ap (λ (o : Bool). costBy h (consIf o (writeOf b) (heardOf (M .hear s b) bs))) e in
-      omega (arith, g .0 .some, heard-cost h bs (M .hear s b))
-
-  module _ (want : ℕ → ℕ) (s : M .State) (bs : List Burst) where
-    -- A list on the bus costs at least as much as writes among its own that send every dirty address, and one more from standby.
-    pub record Covered : Type 1 where
-      pub writes : List Write
-      pub among : (P : Write → Type 0) → All P (map writeOf bs) → All P writes
-      pub sends : SendsAll (marksFor ok want (M .byte s)) n writes
-      pub costs : (h : ℕ) → enableCost h (onBy (M .byte s)) + costBy h writes ≤ costBy h (map writeOf bs)
-
-    dirty-differs : (b : Bool) (x w : ℕ) → markAt b (eqb x w) ≡ dirty → (b ≡ true) × (x ≡ w → ⊥)
-    dirty-differs true x w d = (refl, λ e. let z : _≡_ {A = ℕ} 0 1 = cc (eq-eqb x w e, d) in omega arith)
-    dirty-differs false x w d = let z : _≡_ {A = ℕ} 0 1 = cc in absurd (omega arith)
-
-    heard-sends : AllGood ok n (map writeOf bs) → Same ok n (M .byte (feedBy ok n M s bs)) want →
-        SendsAll (marksFor ok want (M .byte s)) n (heardOf s bs)
-    heard-sends g e zero l d = let z : _≡_ {A = ℕ} 0 1 = cc in absurd (omega arith)
-    heard-sends g e (suc a) l d = go (dirty-differs (ok (suc a)) (M .byte s (suc a)) (want (suc a)) d)
-      where
-        go : (ok (suc a) ≡ true) × (M .byte s (suc a) ≡ want (suc a) → ⊥) → Sent (heardOf s bs) (suc a)
-        go q = by (heard-or-same bs s g (suc a) (q .0) (omega arith))
-          where
-            by : Sent (heardOf s bs) (suc a) ⊎ (M .byte (feedBy ok n M s bs) (suc a) ≡ M .byte s (suc a)) → Sent (heardOf s bs) (suc a)
-            by (inl p) = p
-            by (inr p) = absurd (q .1 (sym p ∙ e (suc a) l (q .0)))
-
-    pub covered : 0 < n → ok 0 ≡ true → onBy want ≡ true → AllGood ok n (map writeOf bs) → Same ok n (M .byte (feedBy ok n M s bs)) want → Covered
-    covered z k o g e = record {
-      writes = heardOf s bs;
-      among = λ P h. heard-among P bs s h;
-      sends = heard-sends g e;
-      costs = λ h. heard-costs h (onBy (M .byte s)) s bs g refl (ap (λ (v : ℕ). eqb (v % 2) 1) (e 0 z k) ∙ o);
-    }
+      hears : Hears (M .byte s) b
+      hears =
+          subst (λ (o : Bool). (i : ℕ) → i < length (b .bytes) → (o ≡ true) ⊎ (b .start + i ≡ 0))
+          (on-same (valueAt image) (M .byte s) (same 0 z k)) (h .0)

@@ -12,6 +12,7 @@ pub mod PlanExamples
 pub mod UpdateLaws
 pub mod Machine
 pub mod Heard
+pub mod Covered
 pub mod Follow
 pub mod MachineLaws
 pub mod Again

@@ -8,7 +8,7 @@ use Prim.Native.Nat.{ℕ, _+_, _≤_, _<_}
 use lib.ListN.{length, getD}
 use Rattle.burst.specs.Burst.{Burst, busBytes}
 use Rattle.plan.specs.Writes.{Good, AllGood}
-use Rattle.plan.specs.Update.{valueAt, Same, onBy, updateFor, storeAll, writeOf, Layout}
+use Rattle.plan.specs.Update.{valueAt, Same, onBy, seen, updateFor, storeAll, writeOf, Images}
 
 -- A chip: its states, their bytes, and what it makes of a transaction. The laws are asked of transactions to writable addresses.
 pub record Machine (ok : ℕ → Bool) (n : ℕ) : Type 1 where
@@ -39,18 +39,14 @@ module _ (ok : ℕ → Bool) (n : ℕ) (M : Machine ok n) where
   module _ (settings image : List ℕ) (s : M .State) where
     -- What an update needs: the image has the chip's writable bytes, and the settings fit.
     pub record Ready : Type 0 where
-      pub layout : Layout ok n settings
-      pub size : length image ≡ n
+      pub images : Images ok n settings image
       pub same : Same ok n (valueAt image) (M .byte s)
       pub sound : M .Sound s
       pub fit : (a : ℕ) → a < n → ok a ≡ true → M .Fit a (valueAt settings a)
-      pub fit-off : M .Fit 0 0
-      pub want-enable : valueAt settings 0 ≤ 1
-      pub have-enable : valueAt image 0 ≤ 1
 
     -- the list that the host sends, by its image
     abbrev pub sent : List Burst
-    sent = updateFor ok n settings (valueAt image)
+    sent = updateFor ok n settings (seen (valueAt settings) (valueAt image))
 
     -- "A rival is any other list .. each data byte, heard or not, for a writable address", and "counts if the writable bytes are
     -- then as after that Update."

@@ -2,12 +2,13 @@
 -- Assumes nothing.
 use mathlib.Core.Path.{_≡_, refl}
 use mathlib.Core.Bool.{true, false, cond, _||_}
-use mathlib.Core.List.{[], _∷_}
+use mathlib.Core.List.{List, [], _∷_}
 use Prim.Native.Nat.{ℕ}
 use lib.Dec.{ltb, eqb}
 use lib.ListN.{set, replicate}
+use Rattle.burst.specs.Burst.{Burst}
 use Rattle.plan.specs.Plan.{Mark, hole, clean, dirty, scan, plan}
-use Rattle.plan.specs.Update.{valueAt, onBy, updateFor, storeAll}
+use Rattle.plan.specs.Update.{valueAt, onBy, seen, updateFor, storeAll}
 
 -- all addresses writable, only a and b differ
 only : ℕ → ℕ → ℕ → Mark
@@ -33,27 +34,34 @@ unfolding plan scan broken only
 hole-ends = refl
 
 -- "000h = 01h, 001h = 58h, Lamp (0, 2, 40h), Update", from a chip of zeros: 01h to 000h alone comes first.
-enables-first : updateFor (λ a. ltb a 908) 908 (set (set (set (replicate 908 0) 0x000 0x01) 0x001 0x58) 0x202 0x40) (valueAt (replicate 908 0))
+wanted : List ℕ
+wanted = set (set (set (replicate 908 0) 0x000 0x01) 0x001 0x58) 0x202 0x40
+
+enables-first : updateFor (λ a. ltb a 908) 908 wanted (seen (valueAt wanted) (valueAt (replicate 908 0)))
     ≡ record { start = 0x000; bytes = 0x01 ∷ [] }
     ∷ record { start = 0x001; bytes = 0x58 ∷ [] }
     ∷ record { start = 0x202; bytes = 0x40 ∷ [] }
     ∷ []
-unfolding updateFor plan scan
+unfolding updateFor plan scan wanted
 enables-first = refl
 
+-- the list for a chip of three registers, all writable, with these settings and this image
+ofThree : List ℕ → List ℕ → List Burst
+ofThree settings image = updateFor (λ a. ltb a 3) 3 settings (seen (valueAt settings) (valueAt image))
+
 -- "Settings off, chip on: one write of 00h to 000h."
-turns-off : updateFor (λ a. ltb a 3) 3 (0x00 ∷ 0x11 ∷ 0x22 ∷ []) (valueAt (0x01 ∷ 0x00 ∷ 0x00 ∷ [])) ≡ record { start = 0x000; bytes = 0x00 ∷ [] } ∷ []
-unfolding updateFor
+turns-off : ofThree (0x00 ∷ 0x11 ∷ 0x22 ∷ []) (0x01 ∷ 0x00 ∷ 0x00 ∷ []) ≡ record { start = 0x000; bytes = 0x00 ∷ [] } ∷ []
+unfolding ofThree updateFor
 turns-off = refl
 
 -- "Both off: nothing. Other settings wait."
-stays-off : updateFor (λ a. ltb a 3) 3 (0x00 ∷ 0x11 ∷ 0x22 ∷ []) (valueAt (0x00 ∷ 0x00 ∷ 0x00 ∷ [])) ≡ []
-unfolding updateFor
+stays-off : ofThree (0x00 ∷ 0x11 ∷ 0x22 ∷ []) (0x00 ∷ 0x00 ∷ 0x00 ∷ []) ≡ []
+unfolding ofThree updateFor
 stays-off = refl
 
 -- with both on only what differs: 002h, and neither 000h nor 001h
-stays-on : updateFor (λ a. ltb a 3) 3 (0x01 ∷ 0x11 ∷ 0x22 ∷ []) (valueAt (0x01 ∷ 0x11 ∷ 0x00 ∷ [])) ≡ record { start = 0x002; bytes = 0x22 ∷ [] } ∷ []
-unfolding updateFor plan scan
+stays-on : ofThree (0x01 ∷ 0x11 ∷ 0x22 ∷ []) (0x01 ∷ 0x11 ∷ 0x00 ∷ []) ≡ record { start = 0x002; bytes = 0x22 ∷ [] } ∷ []
+unfolding ofThree updateFor plan scan
 stays-on = refl
 
 -- "on when bit 0 of 000h in their image is 1": no other bit, no other address

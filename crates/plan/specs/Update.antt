@@ -3,7 +3,7 @@
 use mathlib.Core.Path.{_≡_}
 use mathlib.Core.Bool.{Bool, true, false}
 use mathlib.Core.List.{List, [], _∷_, _++_, map}
-use Prim.Native.Nat.{ℕ, zero, suc, _+_, _%_, _<_}
+use Prim.Native.Nat.{ℕ, zero, suc, _+_, _%_, _≤_, _<_}
 use lib.Dec.{eqb}
 use lib.ListN.{length, getD, take, drop}
 use lib.Seq.{sets}
@@ -26,21 +26,40 @@ markAt false same = hole
 markAt true true = clean
 markAt true false = dirty
 
--- "Then the differing addresses from 001h up": 000h is written apart from the others.
-abbrev pub marksFor : (ℕ → Bool) → (ℕ → ℕ) → (ℕ → ℕ) → ℕ → Mark
-marksFor ok want have zero = clean
-marksFor ok want have (suc a) = markAt (ok (suc a)) (eqb (have (suc a)) (want (suc a)))
+-- "Then the differing addresses from 001h up": 000h is written apart from the others. `same a` says that an address has the
+-- wanted byte.
+abbrev pub marksFor : (ℕ → Bool) → (ℕ → Bool) → ℕ → Mark
+marksFor ok same zero = clean
+marksFor ok same (suc a) = markAt (ok (suc a)) (same (suc a))
 
 -- every writable address differs
 abbrev pub allDiffer : (ℕ → Bool) → ℕ → Mark
-allDiffer ok zero = clean
-allDiffer ok (suc a) = markAt (ok (suc a)) false
+allDiffer ok a = marksFor ok (λ b. false) a
 
--- ---- The list
+-- ---- What is known of the chip
 
 -- "Settings or chip are on when bit 0 of 000h in their image is 1."
 abbrev pub onBy : (ℕ → ℕ) → Bool
 onBy f = eqb (f 0x000 % 2) 1
+
+-- what the host knows of the chip
+pub record View : Type 0 where
+  -- it is on for certain
+  pub sure : Bool
+  -- it may be on
+  pub perhaps : Bool
+  -- an address has the wanted byte for certain
+  pub same : ℕ → Bool
+
+-- an address has the wanted byte
+abbrev pub sameAt : (ℕ → ℕ) → (ℕ → ℕ) → ℕ → Bool
+sameAt want have a = eqb (have a) (want a)
+
+-- "the chip as the host believes it": it has the bytes `have`, so that it may be on only where it is
+abbrev pub seen : (ℕ → ℕ) → (ℕ → ℕ) → View
+seen want have = record { sure = onBy have; perhaps = onBy have; same = sameAt want have }
+
+-- ---- The list
 
 -- a write of the plan, "sent again with their settings"
 abbrev pub dataOf : List ℕ → Write → Burst
@@ -55,17 +74,17 @@ abbrev pub enable : Bool → List Burst
 enable true = []
 enable false = enableWrite 0x01 ∷ []
 
--- By whether the settings are on, and the chip. "Settings off, chip on: one write of 00h to 000h. Both off: nothing."
--- "Settings on:" the enabling write, then the plan's.
-abbrev pub updateBy : Bool → Bool → List Burst → List Burst
-updateBy false true bs = enableWrite 0x00 ∷ []
-updateBy false false bs = []
-updateBy true chip bs = enable chip ++ bs
+-- By whether the settings are on, whether the chip is for certain, and whether it may be. "Settings off, chip on: one write of 00h
+-- to 000h. Both off: nothing." "Settings on:" the enabling write, then the plan's.
+abbrev pub updateBy : Bool → Bool → Bool → List Burst → List Burst
+updateBy false sure true bs = enableWrite 0x00 ∷ []
+updateBy false sure false bs = []
+updateBy true sure perhaps bs = enable sure ++ bs
 
--- the list that an update sends to a chip with the bytes `have`
-unfoldable pub updateFor : (ℕ → Bool) → ℕ → List ℕ → (ℕ → ℕ) → List Burst
-updateFor ok n settings have =
-    updateBy (onBy (valueAt settings)) (onBy have) (map (dataOf settings) (plan (marksFor ok (valueAt settings) have) n))
+-- the list that an update sends to a chip of which this is known
+unfoldable pub updateFor : (ℕ → Bool) → ℕ → List ℕ → View → List Burst
+updateFor ok n settings v =
+    updateBy (onBy (valueAt settings)) (v .sure) (v .perhaps) (map (dataOf settings) (plan (marksFor ok (v .same)) n))
 
 -- "the chip image takes the data bytes at their addresses."
 abbrev pub storeAll : List Burst → List ℕ → List ℕ
@@ -90,3 +109,10 @@ pub record Layout (ok : ℕ → Bool) (n : ℕ) (settings : List ℕ) : Type 0 w
   pub some : 0 < n
   pub enable-ok : ok 0 ≡ true
   pub size : length settings ≡ n
+
+-- and the chip image too, and both have 0 or 1 at 000h
+pub record Images (ok : ℕ → Bool) (n : ℕ) (settings image : List ℕ) : Type 0 where
+  pub layout : Layout ok n settings
+  pub size : length image ≡ n
+  pub want-enable : valueAt settings 0 ≤ 1
+  pub have-enable : valueAt image 0 ≤ 1

@@ -15,14 +15,15 @@ use lib.ListN.{getD}
 use Rattle.map.specs.Map.{writableOf}
 use Rattle.map.specs.ByteLaws.{writable-below}
 use Rattle.plan.specs.Plan.{hole, clean, dirty}
-use Rattle.plan.specs.Update.{valueAt, markAt}
+use Rattle.plan.specs.Update.{markAt}
 use Rattle.plan.specs.UpdateLaws.{marks-at}
 use Rattle.plan.specs.RunLaws.{Closed, Extends, extends-more, extends-over}
+use Rattle.update.specs.Update.{chipView}
 use Rattle.update.specs.Runs.{marksOf, Pair, differsAt, SameTo, FirstDiffering, Further, RunEnd}
 
 module _ (m : ℕ) (settings image : List ℕ) where
   by-tests : (a : ℕ) (w e : Bool) → 0 < a → writableOf m a ≡ w → eqb (getD image a 0) (getD settings a 0) ≡ e → marksOf m settings image a ≡ markAt w e
-  by-tests a w e h ew ee = marks-at (writableOf m) (valueAt settings) (valueAt image) a h ∙ ap₂ markAt ew ee
+  by-tests a w e h ew ee = marks-at (writableOf m) (chipView settings image .same) a h ∙ ap₂ markAt ew ee
 
   pub dirty-at : (a : ℕ) → 0 < a → writableOf m a ≡ true → (getD settings a 0 ≡ getD image a 0 → ⊥) → marksOf m settings image a ≡ dirty
   dirty-at a h w n = by-tests a true false h w (ne-eqb _ _ (λ e. n (sym e)))

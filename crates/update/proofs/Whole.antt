@@ -18,13 +18,13 @@ use Rattle.plan.specs.Lists.{All, all-append}
 use Rattle.plan.specs.Plan.{Write, cost, plan}
 use Rattle.plan.specs.Writes.{Good, AllGood}
 use Rattle.plan.specs.WriteLaws.{cost-append}
-use Rattle.plan.specs.Update.{valueAt, onBy, dataOf, enable, updateFor, storeAll, Layout}
+use Rattle.plan.specs.Update.{valueAt, onBy, dataOf, updateFor, storeAll, Layout}
 use Rattle.plan.specs.UpdateLaws.{plan-ok, data-length}
 use Rattle.host.specs.declared.Record.{Record}
 use Rattle.host.specs.Record.{soundOf}
 use Rattle.host.specs.SoundLaws.{Sound, sound-is}
 use Rattle.update.specs.declared.ListAnswer.the-variants.{Listed, Short, Refused}
-use Rattle.update.specs.Update.{listSize, over, writesOf, updateAnswer, updateImage, updateBuffer}
+use Rattle.update.specs.Update.{listSize, over, chipView, writesOf, updateAnswer, updateImage, updateBuffer}
 use Rattle.update.specs.UpdateLaws.{enable-byte, differ-writable, image-layout}
 use Rattle.update.specs.Runs.{marksOf, Pair, Counted, transactionLengths, transactionBytes, storeWrites, firstRun, firstCount, runCount, runsOf, ListSizes, pendingRuns, listBytes}
 use Rattle.update.proofs.Bytes.{sets-append, front-over, sizes-length, transaction-length, bytes-append, lengths-append, stores-append}
@@ -172,7 +172,7 @@ module _ (m : ℕ) (settings image : List ℕ) where
   planned k e = ap (map (dataOf settings)) (ap (λ (j : ℕ). take j (plan (marksOf m settings image) 908)) e ∙ take-length (plan (marksOf m settings image) 908))
 
   pub writes-are : length settings ≡ 908 → getD settings 0 0 ≤ 1 → getD image 0 0 ≤ 1 →
-      updateFor (writableOf m) 908 settings (valueAt image) ≡ map (dataOf settings) (pendingRuns m settings image (firstCount settings image))
+      updateFor (writableOf m) 908 settings (chipView settings image) ≡ map (dataOf settings) (pendingRuns m settings image (firstCount settings image))
   unfolding updateFor firstRun runCount
   writes-are size hs hi = go (ℕ-discrete (getD settings 0 0) 1) (ℕ-discrete (getD image 0 0) 1)
     where
@@ -186,7 +186,7 @@ module _ (m : ℕ) (settings image : List ℕ) where
       all-sent = planned (length (plan (marksOf m settings image) 908)) refl
 
       go : Dec (getD settings 0 0 ≡ 1) → Dec (getD image 0 0 ≡ 1) →
-          updateFor (writableOf m) 908 settings (valueAt image) ≡ map (dataOf settings) (pendingRuns m settings image (firstCount settings image))
+          updateFor (writableOf m) 908 settings (chipView settings image) ≡ map (dataOf settings) (pendingRuns m settings image (firstCount settings image))
       go (yes a) (yes b) = let e = enabled hs hi 1 1 a b in rw (e .on, e .chip-on, e .differs) (sym all-sent)
       go (yes a) (no b) = let e = enabled hs hi 1 0 a (omega arith) in rw (e .on, e .chip-on, e .differs) (ap₂ _∷_ (data-is 1 a) (sym all-sent))
       go (no a) (yes b) = let e = enabled hs hi 0 1 (omega arith) b in rw (e .on, e .chip-on, e .differs) (ap (λ (x : Burst). x ∷ []) (data-is 0 (omega arith)))
@@ -206,7 +206,7 @@ module _ (m : ℕ) (settings : List ℕ) (layout : Layout (writableOf m) 908 set
   pending-good : (image : List ℕ) (first : ℕ) → AllGood (writableOf m) 908 (pendingRuns m settings image first)
   pending-good image first =
       all-append (Good (writableOf m) 908) (firstRun first) (runsOf m settings image) (enabling-good first)
-      (all-take (Good (writableOf m) 908) (runCount m settings image) (plan (marksOf m settings image) 908) (plan-ok (writableOf m) 908 settings layout (valueAt image)))
+      (all-take (Good (writableOf m) 908) (runCount m settings image) (plan (marksOf m settings image) 908) (plan-ok (writableOf m) 908 settings layout (chipView settings image)))
 
   -- lengths and bytes of writes that lie in the settings
   module _ (bus pins : ℕ) where

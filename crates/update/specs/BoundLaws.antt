@@ -15,13 +15,13 @@ use Rattle.burst.specs.Burst.{Burst, busBytes}
 use Rattle.burst.specs.BurstLaws.{AllData, Sendable}
 use Rattle.plan.specs.Plan.{cost, plan, scan}
 use Rattle.plan.specs.Writes.{AllGood}
-use Rattle.plan.specs.Update.{valueAt, allDiffer, writeOf, Layout}
+use Rattle.plan.specs.Update.{allDiffer, writeOf, Layout}
 use Rattle.plan.specs.UpdateLaws.{update-good, update-most, update-few}
 use Rattle.host.specs.declared.Record.{Record}
 use Rattle.host.specs.Record.{soundOf}
 use Rattle.host.specs.SoundLaws.{sound-is}
 use Rattle.update.specs.declared.ListAnswer.the-variants.{Listed}
-use Rattle.update.specs.Update.{listSize, writesOf, updateAnswer}
+use Rattle.update.specs.Update.{listSize, chipView, writesOf, updateAnswer}
 use Rattle.update.specs.UpdateLaws.{image-layout}
 
 -- the plan after which every writable address differs, of each member
@@ -44,12 +44,12 @@ module _ (r : Record) (e : soundOf r ≡ true) where
   -- t is at most 702
   pub bus-most : busBytes (writesOf r) ≤ 702
   unfolding writesOf
-  bus-most = omega (arith, update-most (writableOf (r .member)) 908 (r .settings) layout (valueAt (r .image)), full-cost (r .member) (sound-is r e .settings .member))
+  bus-most = omega (arith, update-most (writableOf (r .member)) 908 (r .settings) layout (chipView (r .settings) (r .image)), full-cost (r .member) (sound-is r e .settings .member))
 
   -- n is at most a third of t
   pub writes-few : 3 * length (writesOf r) ≤ busBytes (writesOf r)
   unfolding writesOf
-  writes-few = update-few (writableOf (r .member)) 908 (r .settings) layout (valueAt (r .image))
+  writes-few = update-few (writableOf (r .member)) 908 (r .settings) layout (chipView (r .settings) (r .image))
 
   -- and the list has 1,174 bytes at most,
   pub size-most : listSize (writesOf r) ≤ 1174
@@ -64,11 +64,11 @@ module _ (r : Record) (e : soundOf r ≡ true) where
   pub update-sendable : Sendable (writesOf r)
   unfolding writesOf
   update-sendable = record {
-    some = good-data (writableOf (r .member)) (writesOf r) (update-good (writableOf (r .member)) 908 (r .settings) layout (valueAt (r .image)));
+    some = good-data (writableOf (r .member)) (writesOf r) (update-good (writableOf (r .member)) 908 (r .settings) layout (chipView (r .settings) (r .image)));
     short = omega (arith, bus-most);
   }
 
   -- each address that an update names is a writable one of the member
   pub names-writable : AllGood (writableOf (r .member)) 908 (map writeOf (writesOf r))
   unfolding writesOf
-  names-writable = update-good (writableOf (r .member)) 908 (r .settings) layout (valueAt (r .image))
+  names-writable = update-good (writableOf (r .member)) 908 (r .settings) layout (chipView (r .settings) (r .image))

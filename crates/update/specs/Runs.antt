@@ -13,11 +13,11 @@ use Rattle.plan.specs.Plan.{Mark, Write, cost, plan}
 use Rattle.plan.specs.Update.{valueAt, marksFor, onBy, dataOf, storeAll}
 use Rattle.plan.specs.RunLaws.{Closed, Extends}
 use Rattle.update.specs.declared.commands.Strings.{Strings}
-use Rattle.update.specs.Update.{commandWrite}
+use Rattle.update.specs.Update.{chipView, commandWrite}
 
 -- the marks of an update: what each address is, by the member's writable addresses, the settings and the chip image
 abbrev pub marksOf : ℕ → List ℕ → List ℕ → ℕ → Mark
-marksOf m settings image = marksFor (writableOf m) (valueAt settings) (valueAt image)
+marksOf m settings image = marksFor (writableOf m) (chipView settings image .same)
 
 -- the tables that a call reads once
 pub record Tables (kinds : List ℕ) (m n cs : ℕ) : Type 0 where

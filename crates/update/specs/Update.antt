@@ -11,7 +11,7 @@ use Rattle.map.specs.Refusals.{refusalNumber}
 use Rattle.map.specs.Map.{writableOf}
 use Rattle.map.specs.Images.{resetImage}
 use Rattle.burst.specs.Burst.{Burst, busBytes, encode}
-use Rattle.plan.specs.Update.{valueAt, updateFor, storeAll}
+use Rattle.plan.specs.Update.{valueAt, View, seen, updateFor, storeAll}
 use Rattle.host.specs.declared.Record.{Record}
 use Rattle.host.specs.Record.{recordOf, soundOf}
 use Rattle.update.specs.declared.ListAnswer.{ListAnswer}
@@ -46,9 +46,13 @@ over bytes buffer = bytes ++ drop (length bytes) buffer
 
 -- ---- Update
 
+-- what is known of the chip, by the settings and the chip image: it has the bytes of the image
+abbrev pub chipView : List ℕ → List ℕ → View
+chipView settings image = seen (valueAt settings) (valueAt image)
+
 -- the writes of an update: document 01's two sentences are `updateFor` and `plan` of the crate plan
 unfoldable pub writesOf : Record → List Burst
-writesOf r = updateFor (writableOf (r .member)) 908 (r .settings) (valueAt (r .image))
+writesOf r = updateFor (writableOf (r .member)) 908 (r .settings) (chipView (r .settings) (r .image))
 
 -- "10: buffer shorter than 4 + 2n + t; the answer carries the length needed. Otherwise .. n and t answered"
 unfoldable pub updateAnswer : Record → ℕ → ListAnswer

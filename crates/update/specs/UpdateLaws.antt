@@ -3,11 +3,11 @@
 use mathlib.Core.Path.{_≡_, refl, sym, ap, _∙_, subst}
 use mathlib.Core.Logic.{_⊎_, inl, inr}
 use mathlib.Core.Bool.{Bool, true, false, cond, not, _||_, true≢false}
-use mathlib.Core.List.{List, [], _∷_, map}
-use Prim.Native.Nat.{ℕ, _+_, _-_, _%_, _≤_, _<_}
+use mathlib.Core.List.{List, [], _∷_}
+use Prim.Native.Nat.{ℕ, _+_, _-_, _≤_, _<_}
 use native.Mathlib.Decide.{decLt}
 use native.Mathlib.Omega.{arith}
-use borrow.Author.Tests.{eq-eqb, eqb-true, eqb-false, leb-true}
+use borrow.Author.Tests.{eq-eqb, leb-true}
 use lib.Dec.{leb, eqb}
 use lib.Bits.{bitAnd}
 use lib.ListN.{length, getD}
@@ -21,14 +21,12 @@ use Rattle.map.specs.Images.{resetImage}
 use Rattle.map.specs.ImageLaws.{Fit, and-byte, Image}
 use Rattle.burst.specs.Burst.{Burst}
 use Rattle.plan.specs.Lists.{All, sets-outside, sets-inside}
-use Rattle.plan.specs.Plan.{Write, plan}
-use Rattle.plan.specs.Writes.{AllGood}
-use Rattle.plan.specs.Update.{valueAt, marksFor, onBy, dataOf, enableWrite, updateBy, updateFor, storeAll, Layout}
-use Rattle.plan.specs.UpdateLaws.{plan-ok, data-length, data-at}
+use Rattle.plan.specs.Update.{View, updateFor, storeAll, Layout}
+use Rattle.plan.specs.UpdateLaws.{Fitting, update-fitting}
 use Rattle.host.specs.declared.Record.{Record}
 use Rattle.host.specs.Record.{recordOf, soundOf}
 use Rattle.host.specs.SoundLaws.{Sound, sound-is, is-sound, reset-image, chosen}
-use Rattle.update.specs.Update.{isListed, writesOf, updateAnswer, updateImage, updateOf, commandAnswer, chipResetOf}
+use Rattle.update.specs.Update.{isListed, chipView, writesOf, updateAnswer, updateImage, updateOf, commandAnswer, chipResetOf}
 
 -- ---- one byte
 
@@ -79,12 +77,7 @@ image-layout m settings s = record {
 
 -- ---- data bytes that fit
 
--- a transaction whose addresses there are, each data byte of which may stand at its address
-pub record Fitting (m : ℕ) (b : Burst) : Type 0 where
-  pub inside : b .start + length (b .bytes) ≤ 908
-  pub fits : (i : ℕ) → i < length (b .bytes) → Fit m (b .start + i) (getD (b .bytes) i 0)
-
-store-one : (m : ℕ) (b : Burst) → Fitting m b → (image : List ℕ) → Image m image → Image m (sets image (b .start) (b .bytes))
+store-one : (m : ℕ) (b : Burst) → Fitting (Fit m) 908 b → (image : List ℕ) → Image m image → Image m (sets image (b .start) (b .bytes))
 store-one m b f image i = record {
   member = i .member;
   size = length-sets image (b .start) (b .bytes) ∙ i .size;
@@ -104,48 +97,15 @@ store-one m b f image i = record {
     at a h (no p) (yes q) =
         subst (λ (x : ℕ). Fit m x (getD (sets image (b .start) (b .bytes)) x 0)) (omega arith) (stored (a - b .start) (omega arith))
 
-pub store-image : (m : ℕ) (bs : List Burst) → All (Fitting m) bs → (image : List ℕ) → Image m image → Image m (storeAll bs image)
+pub store-image : (m : ℕ) (bs : List Burst) → All (Fitting (Fit m) 908) bs → (image : List ℕ) → Image m image → Image m (storeAll bs image)
 store-image m [] f image i = i
 store-image m (b ∷ bs) f image i = store-image m bs (f .1) (sets image (b .start) (b .bytes)) (store-one m b (f .0) image i)
 
-module _ (m : ℕ) (settings : List ℕ) (s : Image m settings) where
-  data-fits : (w : Write) → w .start + w .len ≤ 908 → Fitting m (dataOf settings w)
-  data-fits w h =
-      let inside : w .start + w .len ≤ length settings = omega (arith, s .size) in
-      record {
-        inside = omega (arith, data-length settings w inside);
-        fits = λ i k.
-            let l : i < w .len = omega (arith, data-length settings w inside) in
-            subst (Fit m (w .start + i)) (sym (data-at settings w inside i l)) (s .fits (w .start + i) (omega arith));
-      }
-
-  plan-fits : (ws : List Write) → AllGood (writableOf m) 908 ws → All (Fitting m) (map (dataOf settings) ws)
-  plan-fits [] g = tt
-  plan-fits (w ∷ ws) g = (data-fits w (g .0 .fits), plan-fits ws (g .1))
-
-  enable-fits : (v : ℕ) → getD settings 0 0 ≡ v → Fitting m (enableWrite v)
-  enable-fits v e = record {
-    inside = omega arith;
-    fits = λ i h. let z : i ≡ 0 = omega arith in rw z (subst (Fit m 0) e (s .fits 0 (omega arith)));
-  }
-
-  -- every data byte of an update may stand at its address
-  pub update-fits : (have : ℕ → ℕ) → All (Fitting m) (updateFor (writableOf m) 908 settings have)
-  unfolding updateFor
-  update-fits have = go (onBy (valueAt settings)) refl (onBy have)
-    where
-      small : getD settings 0 0 ≤ 1
-      small = enable-byte m (getD settings 0 0) (s .member) (s .fits 0 (omega arith))
-
-      planned : All (Fitting m) (map (dataOf settings) (plan (marksFor (writableOf m) (valueAt settings) have) 908))
-      planned = plan-fits (plan (marksFor (writableOf m) (valueAt settings) have) 908) (plan-ok (writableOf m) 908 settings (image-layout m settings s) have)
-
-      go : (w : Bool) → onBy (valueAt settings) ≡ w → (c : Bool) →
-          All (Fitting m) (updateBy w c (map (dataOf settings) (plan (marksFor (writableOf m) (valueAt settings) have) 908)))
-      go true e true = planned
-      go true e false = (enable-fits 0x01 (omega (arith, small, eqb-true (getD settings 0 0 % 2) 1 e)), planned)
-      go false e true = (enable-fits 0x00 (omega (arith, small, eqb-false (getD settings 0 0 % 2) 1 e)), tt)
-      go false e false = tt
+-- every data byte of an update may stand at its address
+pub update-fits : (m : ℕ) (settings : List ℕ) → Image m settings → (v : View) → All (Fitting (Fit m) 908) (updateFor (writableOf m) 908 settings v)
+update-fits m settings s v =
+    update-fitting (writableOf m) 908 settings (image-layout m settings s) (Fit m) (λ a l k. s .fits a l)
+    (enable-byte m (getD settings 0 0) (s .member) (s .fits 0 (omega arith))) v
 
 -- ---- the calls keep a sound record sound
 
@@ -159,7 +119,7 @@ update-sound r size e =
     let s = sound-is r e in
     image-sound r (updateImage r size) s
     (chosen (r .member) (isListed (updateAnswer r size)) (storeAll (writesOf r) (r .image)) (r .image)
-    (λ t. store-image (r .member) (writesOf r) (update-fits (r .member) (r .settings) (s .settings) (valueAt (r .image))) (r .image) (s .image)) (s .image))
+    (λ t. store-image (r .member) (writesOf r) (update-fits (r .member) (r .settings) (s .settings) (chipView (r .settings) (r .image))) (r .image) (s .image)) (s .image))
 
 pub reset-sound : (r : Record) (size : ℕ) → soundOf r ≡ true → soundOf (chipResetOf r size .state) ≡ true
 unfolding chipResetOf
