@@ -42,16 +42,7 @@ const LP5861T_MASKS: [u8; 12] = [
     0x80,
 ];
 
-// The reserved bits of 000h to 00Bh, a row a member.
-const FIRST_MASKS: [[u8; 12]; 5] = [
-    COMMON_MASKS,
-    LP5861T_MASKS,
-    COMMON_MASKS,
-    COMMON_MASKS,
-    COMMON_MASKS,
-];
-
-// The reset values of 000h to 00Bh.
+// The reset values of 000h to 00Bh: all five summary tables have the same.
 const COMMON_RESETS: [u8; 12] = [
     0x00,
     0x5E,
@@ -65,15 +56,6 @@ const COMMON_RESETS: [u8; 12] = [
     0x40,
     0x40,
     0x40,
-];
-
-// The reset values of 000h to 00Bh, a row a member: all five summary tables have the same.
-const FIRST_RESETS: [[u8; 12]; 5] = [
-    COMMON_RESETS,
-    COMMON_RESETS,
-    COMMON_RESETS,
-    COMMON_RESETS,
-    COMMON_RESETS,
 ];
 
 // The scan lines of a member; a code above 4 has none.
@@ -96,31 +78,31 @@ pub fn switch_bytes(member: usize) -> usize
     if member < 5 { SWITCH_BYTES[member] } else { 0 }
 }
 
-// The reserved bits of the first twelve registers. A row is named by a constant: at a variable index the whole table would be
+// The reserved bits of the first twelve registers, a row a member. A row is a constant of its own: at an index a table of rows would be
 // built on the stack in each call.
 pub fn first_masks(member: usize) -> [u8; 12]
     ensures { λ r. ⌜ r ≡ firstMasks member ⌝ }
 {
     match member {
-        0 => FIRST_MASKS[0],
-        1 => FIRST_MASKS[1],
-        2 => FIRST_MASKS[2],
-        3 => FIRST_MASKS[3],
-        4 => FIRST_MASKS[4],
+        0 => COMMON_MASKS,
+        1 => LP5861T_MASKS,
+        2 => COMMON_MASKS,
+        3 => COMMON_MASKS,
+        4 => COMMON_MASKS,
         _ => COMMON_MASKS,
     }
 }
 
-// The reset values of the first twelve registers.
+// The reset values of the first twelve registers, a row a member.
 pub fn first_resets(member: usize) -> [u8; 12]
     ensures { λ r. ⌜ r ≡ firstResets ⌝ }
 {
     match member {
-        0 => FIRST_RESETS[0],
-        1 => FIRST_RESETS[1],
-        2 => FIRST_RESETS[2],
-        3 => FIRST_RESETS[3],
-        4 => FIRST_RESETS[4],
+        0 => COMMON_RESETS,
+        1 => COMMON_RESETS,
+        2 => COMMON_RESETS,
+        3 => COMMON_RESETS,
+        4 => COMMON_RESETS,
         _ => COMMON_RESETS,
     }
 }
