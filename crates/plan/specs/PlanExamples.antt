@@ -57,7 +57,7 @@ unfolding updateFor plan scan
 stays-on = refl
 
 -- "on when bit 0 of 000h in their image is 1": no other bit, no other address
-on-by-bit-0 : (onBy (valueAt (0x01 ∷ 0x00 ∷ [])) ≡ true) × (onBy (valueAt (0xFE ∷ 0xFF ∷ [])) ≡ false)
+on-by-bit-0 : (onBy (valueAt (0xFF ∷ 0x00 ∷ [])) ≡ true) × (onBy (valueAt (0xFE ∷ 0xFF ∷ [])) ≡ false)
 on-by-bit-0 = (refl, refl)
 
 -- "the chip image takes the data bytes at their addresses."
