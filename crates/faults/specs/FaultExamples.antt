@@ -1,4 +1,5 @@
--- Faults, computed on one set of fault bytes: sinks 0 and 2 of line 0 are open, sinks 1 and 2 short, and the last dot is both.
+-- Faults, computed on one set of fault bytes: sinks 0 and 2 of line 0 and sink 0 of line 1 are open, sinks 1 and 2 of line 0 short, and
+-- the last dot is both.
 -- Assumes nothing.
 use mathlib.Core.Path.{_≡_, refl}
 use mathlib.Core.Bool.{true, false}
@@ -20,10 +21,10 @@ checks = (refl, refl, refl, refl, refl)
 
 -- "064h-0A6h": the fault state s, the open bytes from 065h on, the short bytes from 086h on
 bytes : ℕ → List ℕ
-bytes s = s ∷ 0x05 ∷ (replicate 31 0x00 ++ (0x02 ∷ 0x06 ∷ (replicate 31 0x00 ++ (0x02 ∷ []))))
+bytes s = s ∷ 0x05 ∷ 0x00 ∷ 0x00 ∷ 0x01 ∷ (replicate 28 0x00 ++ (0x02 ∷ 0x06 ∷ (replicate 31 0x00 ++ (0x02 ∷ []))))
 
 -- "0 sound, 1 open, 2 short, 3 both, 4 no such dot", of the LP5860 and, whose sink 2 is absent, of the LP5867
-readings-of-lp5860 : map (reading 0 (bytes 0x03)) (0 ∷ 1 ∷ 2 ∷ 3 ∷ 197 ∷ 198 ∷ []) ≡ 1 ∷ 2 ∷ 3 ∷ 0 ∷ 3 ∷ 4 ∷ []
+readings-of-lp5860 : map (reading 0 (bytes 0x03)) (0 ∷ 1 ∷ 2 ∷ 3 ∷ 18 ∷ 197 ∷ 198 ∷ []) ≡ 1 ∷ 2 ∷ 3 ∷ 0 ∷ 1 ∷ 3 ∷ 4 ∷ []
 unfolding reading hasDot isSet bitSet faultByte lampReading addressOf shiftOf numberIn dotIn linesOf columnsOf hasColumn bytes
 readings-of-lp5860 = refl
 

@@ -7,11 +7,11 @@ use Prim.Native.Nat.{ℕ}
 use lib.ListN.{getD, replicate}
 use Rattle.map.specs.declared.refusals.Answer.the-variants.{Accepted, Refused}
 use Rattle.map.specs.declared.refusals.Refusal.the-variants.{NoDot}
-use Rattle.map.specs.Map.{linesOf, columnsOf, hasColumn, dotIn, isDot, numberIn, kindOf, dataMode, isWide, firstMasks, firstMask, pwmReserved, reservedAs, reservedOf, writableOf, firstReset, switchBytesOf, switchReset, currentReset, resetAs, resetOf}
+use Rattle.map.specs.Map.{linesOf, columnsOf, hasColumn, dotIn, isDot, numberIn, kindOf, addressOf, shiftOf, widthOf, dataMode, isWide, firstMasks, firstMask, pwmReserved, reservedAs, reservedOf, writableOf, firstReset, switchBytesOf, switchReset, currentReset, resetAs, resetOf}
 use Rattle.map.specs.Lists.{tableFrom, table}
 use Rattle.map.specs.Images.{okByte, imageOk, resetImage}
 use Rattle.burst.specs.Burst.{byteAt, size16, nOf, tOf, lengthsFrom, lengths, cutFrom, transactions, lengthsGood, sizesGood, headFirst, headSecond, headAddress, headWrites, headSelect, transactionOf, listOf, encode}
-use Rattle.host.specs.Record.{soundOf, wideOf, topLevel, putLevel}
+use Rattle.host.specs.Record.{soundOf, wideOf, topLevel, putLevel, putBits, putField}
 use Rattle.update.specs.declared.ListAnswer.the-variants as lists
 use Rattle.update.specs.Update.{commandAnswer, commandBuffer, clearOf}
 use Rattle.chip.specs.Chip.{feedAnswer, selected, decodeOf, heard, isCommand, clearOpens, clearShorts, heardByte, hearByte, hearData, hear, apply, applyAll, feedOf}
@@ -20,7 +20,7 @@ use Rattle.history.specs.declared.CallAnswer.{CallAnswer}
 use Rattle.history.specs.declared.CallAnswer.the-variants as answers
 use Rattle.history.specs.declared.Request.{Request}
 use Rattle.history.specs.declared.Request.the-variants.{Register, Lamp, Group, Switch, Scene, Reset, PowerLost, Update}
-use Rattle.history.specs.Ledger.{registerMeets, lampMeets, wantsOn, openedLedger, enteredOf}
+use Rattle.history.specs.Ledger.{registerMeets, lampMeets, fieldMeets, wantsOn, openedLedger, enteredOf}
 use Rattle.history.specs.Step.{callNumbers, listIn, lentAfter, clearOpensStep, clearShortsStep}
 use Rattle.history.specs.History.{Call, ledger}
 
@@ -42,11 +42,11 @@ lent-stays : (w : World) (lent : List ℕ) (x y z : ℕ) → (lentAfter w (Regis
 lent-stays w lent x y z = (refl, refl, refl, refl, refl, refl)
 
 -- "Chip enable is wanted on when bit 0 of the ledger's 000h is 1."
-wanted-on : (wantsOn (0x01 ∷ 0x00 ∷ []) ≡ true) × (wantsOn (0xFE ∷ 0xFF ∷ []) ≡ false)
+wanted-on : (wantsOn (0xFF ∷ 0x00 ∷ []) ≡ true) × (wantsOn (0xFE ∷ 0xFF ∷ []) ≡ false)
 wanted-on = (refl, refl)
 
 -- "It has the member that the accepted Open was given, and 908 bytes, which begin at that member's reset values."
-new-ledger : openedLedger 3 ≡ record { member = 3; bytes = resetImage 3 }
+new-ledger : openedLedger 4 ≡ record { member = 4; bytes = resetImage 4 }
 unfolding openedLedger
 new-ledger = refl
 
@@ -63,16 +63,18 @@ no-ledger request lent = refl
 abbrev plain : Request → Call
 plain request = record { request = request; lent = [] }
 
--- document 01's second bench example, with three settings that fail their conditions and three calls that set nothing: 038Ch is not
--- writable, 02h at 000h has a reserved bit set, 100h is no level of 8 bits
+-- document 01's second bench example and the last dot, then settings that fail their conditions and calls that set nothing: 38Ch is not
+-- writable, 02h at 000h has a reserved bit set, 256 is no level of 8 bits, 4 no group, 2 no state
 calls : List Call
 calls =
     plain (Register 0x000 0x01) ∷ plain (Register 0x001 0x58) ∷ plain (Lamp 0 2 0x40)
-    ∷ plain (Register 0x38C 0x01) ∷ plain (Register 0x000 0x02) ∷ plain (Lamp 0 2 0x100)
+    ∷ plain (Lamp 10 17 255) ∷ plain (Group 10 17 3) ∷ plain (Switch 10 16 1) ∷ plain (Switch 10 17 0)
+    ∷ plain (Register 0x38C 0x01) ∷ plain (Register 0x000 0x02) ∷ plain (Lamp 0 2 256) ∷ plain (Group 10 16 4) ∷ plain (Switch 10 16 2)
     ∷ plain Update ∷ plain Reset ∷ plain PowerLost ∷ []
 
-settings-asked : map (λ (a : ℕ). getD (ledger 0 calls) a 0) (0x000 ∷ 0x001 ∷ 0x202 ∷ 0x203 ∷ 0x204 ∷ []) ≡ 0x01 ∷ 0x58 ∷ 0x40 ∷ 0x00 ∷ 0x00 ∷ []
-unfolding calls registerMeets lampMeets okByte writableOf reservedOf reservedAs kindOf linesOf columnsOf hasColumn dotIn isDot numberIn dataMode isWide firstMasks firstMask pwmReserved wideOf topLevel putLevel resetImage table tableFrom resetOf resetAs firstReset switchBytesOf switchReset currentReset
+settings-asked : map (λ (a : ℕ). getD (ledger 0 calls) a 0) (0x000 ∷ 0x001 ∷ 0x202 ∷ 0x203 ∷ 0x2C5 ∷ 0x042 ∷ 0x063 ∷ [])
+    ≡ 0x01 ∷ 0x58 ∷ 0x40 ∷ 0x00 ∷ 0xFF ∷ 0x0C ∷ 0x01 ∷ []
+unfolding calls registerMeets lampMeets fieldMeets okByte writableOf reservedOf reservedAs kindOf linesOf columnsOf hasColumn dotIn isDot numberIn addressOf shiftOf widthOf dataMode isWide firstMasks firstMask pwmReserved wideOf topLevel putLevel putBits putField resetImage table tableFrom resetOf resetAs firstReset switchBytesOf switchReset currentReset
 settings-asked = refl
 
 -- ---- The Clears
