@@ -1,3 +1,5 @@
 pub mod Replies
+pub mod ReplyLaws
 pub mod Run
 pub mod Play
+pub mod PlayLaws
