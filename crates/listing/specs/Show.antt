@@ -6,6 +6,8 @@ use mathlib.Core.List.{List, [], _∷_, _++_}
 use Prim.Native.Nat.{ℕ}
 use lib.Dec.{leb}
 use lib.ListN.{length, getD, drop}
+use Rattle.map.specs.declared.refusals.Refusal.the-variants.{ListSizes}
+use Rattle.map.specs.Refusals.{refusalNumber}
 use Rattle.burst.specs.Burst.{nOf, tOf, transactions, sizesGood, headAddress}
 use Rattle.text.specs.Text.{addressText, decimalText, spacedBytesText}
 
@@ -25,9 +27,9 @@ linesText (x ∷ xs) = lineText x ++ linesText xs
 unfoldable pub sizesText : ℕ → ℕ → List ℕ
 sizesText n t = decimalText n ++ (0x20 ∷ (decimalText t ++ (0x0A ∷ [])))
 
--- `11`
+-- `11`, the number of a list whose sizes do not add up
 unfoldable pub refusalText : List ℕ
-refusalText = 0x31 ∷ 0x31 ∷ 0x0A ∷ []
+refusalText = decimalText (refusalNumber ListSizes) ++ (0x0A ∷ [])
 
 -- ---- The whole
 

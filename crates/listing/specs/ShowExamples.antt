@@ -46,21 +46,21 @@ largest = refl
 
 -- ---- damaged lists print `11`: an empty one, one of three bytes, a length of 2, lengths that do not add to t, and a byte too many
 empty : shown [] ≡ eleven
-unfolding shown refusalText sizesGood lengthsGood lengths lengthsFrom nOf tOf size16 byteAt eleven
+unfolding shown refusalText decimalText decimalUpTo digit sizesGood lengthsGood lengths lengthsFrom nOf tOf size16 byteAt eleven
 empty = refl
 
 short : shown (0x00 ∷ 0x00 ∷ 0x00 ∷ []) ≡ eleven
-unfolding shown refusalText sizesGood lengthsGood lengths lengthsFrom nOf tOf size16 byteAt eleven
+unfolding shown refusalText decimalText decimalUpTo digit sizesGood lengthsGood lengths lengthsFrom nOf tOf size16 byteAt eleven
 short = refl
 
 headless : shown (0x01 ∷ 0x00 ∷ 0x02 ∷ 0x00 ∷ 0x02 ∷ 0x00 ∷ 0x80 ∷ 0x00 ∷ []) ≡ eleven
-unfolding shown refusalText sizesGood lengthsGood lengths lengthsFrom nOf tOf size16 byteAt eleven
+unfolding shown refusalText decimalText decimalUpTo digit sizesGood lengthsGood lengths lengthsFrom nOf tOf size16 byteAt eleven
 headless = refl
 
 unequal : shown (0x01 ∷ 0x00 ∷ 0x03 ∷ 0x00 ∷ 0x04 ∷ 0x00 ∷ 0x80 ∷ 0x00 ∷ 0x01 ∷ []) ≡ eleven
-unfolding shown refusalText sizesGood lengthsGood lengths lengthsFrom nOf tOf size16 byteAt eleven
+unfolding shown refusalText decimalText decimalUpTo digit sizesGood lengthsGood lengths lengthsFrom nOf tOf size16 byteAt eleven
 unequal = refl
 
 trailing : shown (0x01 ∷ 0x00 ∷ 0x03 ∷ 0x00 ∷ 0x03 ∷ 0x00 ∷ 0x80 ∷ 0x00 ∷ 0x01 ∷ 0x00 ∷ []) ≡ eleven
-unfolding shown refusalText sizesGood lengthsGood lengths lengthsFrom nOf tOf size16 byteAt eleven
+unfolding shown refusalText decimalText decimalUpTo digit sizesGood lengthsGood lengths lengthsFrom nOf tOf size16 byteAt eleven
 trailing = refl

@@ -9,6 +9,8 @@ use borrow.Author.Tests.{leb-true}
 use lib.Dec.{leb}
 use lib.ListN.{length, getD, take, drop, length-append, length-drop}
 use lib.Seq.{length-take-le}
+use Rattle.map.specs.declared.refusals.Refusal.the-variants.{ListSizes}
+use Rattle.map.specs.Refusals.{refusalNumber}
 use Rattle.burst.specs.Burst.{nOf, tOf, lengthsFrom, lengths, cutFrom, transactions, sum, sizesGood, headAddress}
 use Rattle.burst.specs.BurstLaws.{good-sizes, Rest, rest-all, rest-first, rest-next}
 use Rattle.text.specs.Text.{addressText, decimalText, spacedBytesText}
@@ -68,11 +70,17 @@ good-fits l h e =
       g .size,
     )
 
+refusal-length : length refusalText ≤ 3
+unfolding refusalText
+refusal-length =
+    let n = refusalNumber ListSizes in
+    omega (arith, length-append (decimalText n) (0x0A ∷ []), decimal-length 1 n (omega arith))
+
 pub shown-fits : (l : List ℕ) → length (shown l) ≤ 196608
-unfolding shown refusalText
+unfolding shown
 shown-fits l = by (leb (length l) 65536) refl (sizesGood l) refl
   where
     by : (a : Bool) → leb (length l) 65536 ≡ a → (b : Bool) → sizesGood l ≡ b → length (shown l) ≤ 196608
-    by false e b f = rw e (omega arith)
-    by true e false f = rw (e, f) (omega arith)
+    by false e b f = rw e (omega (arith, refusal-length))
+    by true e false f = rw (e, f) (omega (arith, refusal-length))
     by true e true f = rw (e, f) (good-fits l (leb-true (length l) 65536 e) f)

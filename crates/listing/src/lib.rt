@@ -10,6 +10,7 @@ ghost use Rattle.burst.specs.BurstLaws.{Rest};
 ghost use Rattle.text.specs.Text.{Puts};
 ghost use Rattle.listing.specs.Show.{lineText, linesText, sizesText, refusalText, shown};
 use burst::Sizes;
+use map::Refusal;
 
 // The transaction of so many bytes at a place of the list.
 fn put_line(text: &mut [u8], at: usize, list: &[u8], from: usize, size: usize) -> usize
@@ -52,7 +53,8 @@ fn put_sizes(text: &mut [u8], n: usize, t: usize) -> usize
 fn put_refusal(text: &mut [u8]) -> usize
     ensures { λ r. ⌜ Puts (now (text .entry)) 0 refusalText (now (text .exit)) r ⌝ }
 {
-    text::put_text(text, 0, b"11\n")
+    let next = text::put_decimal(text, 0, map::refusal_number(Refusal::ListSizes) as usize);
+    text::put(text, next, b'\n')
 }
 
 // The text of a list.

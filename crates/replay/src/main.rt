@@ -2,11 +2,15 @@
 // one line for each. docs/REPLAY.md has the lines.
 //
 // The script has any length. It is read in blocks; the line that is not over yet is carried from block to block in a buffer of
-// its own, and what is to be written waits in a third until the block is played or the buffer is nearly full.
+// its own, and what is to be written waits in a third until the block is played or the longest line has no room behind it.
+mod output;
+
 ghost use mathlib.Core.Path.{_≡_};
 ghost use mathlib.Core.List.{_++_};
-ghost use Prim.Native.Nat.{_≤_};
+ghost use Prim.Native.Nat.{_+_, _≤_};
 ghost use lib.ListN.{length, take};
+ghost use Rattle.session.specs.Play.{sessionAfter, printed, longestLine};
+use output::Output;
 use session::Session;
 
 // One byte more than the longest line that is a call has. A longer line is cut to this, which is no call either.
@@ -14,63 +18,66 @@ const LINE: usize = script::LONGEST + 1;
 
 const TEXT: usize = 65536;
 
-// Behind this place of the text a line might have no room: the longest has some 8,200 bytes.
-const FULL: usize = 49152;
-
 // What is kept from line to line.
 struct Player {
     session: Session,
     // of the line so far
     length: usize,
-    // how much text waits to be written
-    at: usize,
+    output: Output,
+    // whether there may be more to read
+    more: bool,
 }
 
 fn new_player() -> Player
-    ensures { λ r. ⌜ r .length ≡ 0 ⌝ }
+    ensures { λ r. ⌜ (r .length ≡ 0) × (r .output .at ≡ 0) ⌝ }
 {
     let session = session::start();
+    let output = Output {
+        at: 0,
+        failed: false,
+    };
     Player {
         session: session,
         length: 0,
-        at: 0,
+        output: output,
+        more: true,
     }
 }
 
-// The text so far is written where there is too little room behind it for another line.
-fn flushed(text: &[u8], at: usize, full: usize) -> usize {
-    if at < full {
-        return at;
-    }
-    if at <= text.len() {
-        io::write_all(libc::STDOUT_FILENO, &text[..at]);
-    }
-    0
-}
-
-// A line that is over: what it prints goes to the text, and the next line is empty so far.
+// A line that is over: with room for the longest line, all that it prints stands behind the text that waits. The next line is empty
+// so far.
 fn play(mut player: Player, line: &[u8], text: &mut [u8]) -> Player
+    requires { ⌜ player .output .at + longestLine ≤ length (now text) ⌝ }
+    ensures { λ r. ⌜ r .session ≡ sessionAfter (player .session) (now (line .entry)) ⌝ }
+    ensures { λ r. ⌜ take (r .output .at) (now (text .exit)) ≡ take (player .output .at) (now (text .entry)) ++ printed (player .session) (now (line .entry)) ⌝ }
+    ensures { λ r. ⌜ r .output .at ≤ length (now (text .exit)) ⌝ }
     ensures { λ r. ⌜ r .length ≡ 0 ⌝ }
 {
     let session = player.session;
-    let played = session::play(session, line, text, player.at);
+    let mut output = player.output;
+    let played = session::play(session, line, text, output.at);
     let session = played.session;
+    output.at = played.at;
     player.session = session;
     player.length = 0;
-    player.at = flushed(text, played.at, FULL);
+    player.output = output;
     player
 }
 
-// The line, where it is over.
+// The line, where it is over. Behind it there is room for another.
 fn line_ended(player: Player, over: bool, line: &[u8], text: &mut [u8]) -> Player
-    requires { ⌜ player .length ≤ length (now line) ⌝ }
-    ensures { λ r. ⌜ r .length ≤ length (now (line .entry)) ⌝ }
+    requires { ⌜ (player .length ≤ length (now line)) × (player .output .at + longestLine ≤ length (now text)) ⌝ }
+    ensures { λ r. ⌜ (r .length ≤ length (now (line .entry))) × (r .output .at + longestLine ≤ length (now (text .exit))) ⌝ }
 {
     if !over {
         return player;
     }
     let length = player.length;
-    play(player, &line[..length], text)
+    let mut player = play(player, &line[..length], text);
+    let output = player.output;
+    let output = output::with_room(text, output);
+    player.output = output;
+    player
 }
 
 // The line so far with these bytes behind it, as many as its buffer has room for. It answers the length.
@@ -90,12 +97,13 @@ fn line_end(block: &[u8], from: usize) -> usize
     from + script::line_length(&block[from..])
 }
 
+// The lines of a block; none after a write that failed.
 fn play_block(mut player: Player, block: &[u8], line: &mut [u8], text: &mut [u8]) -> Player
-    requires { ⌜ (length (now block) ≤ 65536) × (player .length ≤ length (now line)) ⌝ }
-    ensures { λ r. ⌜ r .length ≤ length (now (line .exit)) ⌝ }
+    requires { ⌜ (length (now block) ≤ 65536) × (player .length ≤ length (now line)) × (player .output .at + longestLine ≤ length (now text)) ⌝ }
+    ensures { λ r. ⌜ (r .length ≤ length (now (line .exit))) × (r .output .at + longestLine ≤ length (now (text .exit))) ⌝ }
 {
     let mut from = 0;
-    while from < block.len() {
+    while from < block.len() && !player.output.failed {
         let to = line_end(block, from);
         player.length = lengthened(line, player.length, &block[from..to]);
         player = line_ended(player, to < block.len(), line, text);
@@ -104,44 +112,57 @@ fn play_block(mut player: Player, block: &[u8], line: &mut [u8], text: &mut [u8]
     player
 }
 
-// A block of the script, and what `read` answered: 0 at the end, below 0 where it failed.
-struct Turn {
-    player: Player,
-    got: isize,
+// Nothing more is read, and a line that is not over is not played: it may have been cut.
+fn stopped(mut player: Player) -> Player
+    ensures { λ r. ⌜ (r .length ≡ 0) × (r .output .at ≡ player .output .at) ⌝ }
+{
+    player.length = 0;
+    player.more = false;
+    player
 }
 
-fn play_some(turn: Turn, line: &mut [u8], text: &mut [u8]) -> Turn
-    requires { ⌜ turn .player .length ≤ length (now line) ⌝ }
-    ensures { λ r. ⌜ r .player .length ≤ length (now (line .exit)) ⌝ }
+// After a block, of which `read` answered so much, the text is written.
+fn block_ended(mut player: Player, got: isize, text: &[u8]) -> Player
+    requires { ⌜ player .output .at ≤ length (now text) ⌝ }
+    ensures { λ r. ⌜ (r .length ≤ player .length) × (r .output .at ≡ 0) ⌝ }
+{
+    let output = player.output;
+    let output = output::flushed(text, output);
+    let failed = output.failed;
+    player.output = output;
+    player.more = 0 < got;
+    if failed {
+        return stopped(player);
+    }
+    if got < 0 {
+        return stopped(player);
+    }
+    player
+}
+
+fn play_some(player: Player, line: &mut [u8], text: &mut [u8]) -> Player
+    requires { ⌜ (player .length ≤ length (now line)) × (player .output .at + longestLine ≤ length (now text)) ⌝ }
+    ensures { λ r. ⌜ (r .length ≤ length (now (line .exit))) × (r .output .at + longestLine ≤ length (now (text .exit))) ⌝ }
 {
     let mut block = io::large_buffer();
-    let got = libc::read(libc::STDIN_FILENO, &mut block);
+    let got = output::read_some(&mut block);
     let n = io::count(got, &block);
-    let player = turn.player;
-    let mut player = play_block(player, &block[..n], line, text);
-    player.at = flushed(text, player.at, 0);
-    Turn {
-        player: player,
-        got: got,
-    }
+    let player = play_block(player, &block[..n], line, text);
+    block_ended(player, got, text)
 }
 
 // A proved loop has to end, and nothing says that the input does. So the loop counts its turns down, from a number that no run
 // uses up.
 fn play_all(line: &mut [u8], text: &mut [u8]) -> Player
-    ensures { λ r. ⌜ r .length ≤ length (now (line .exit)) ⌝ }
+    requires { ⌜ longestLine ≤ length (now text) ⌝ }
+    ensures { λ r. ⌜ (r .length ≤ length (now (line .exit))) × (r .output .at + longestLine ≤ length (now (text .exit))) ⌝ }
 {
-    let player = new_player();
-    let mut turn = Turn {
-        player: player,
-        got: 1,
-    };
+    let mut player = new_player();
     let mut turns = u64::MAX;
-    while 0 < turns && 0 < turn.got {
-        turn = play_some(turn, line, text);
+    while 0 < turns && player.more {
+        player = play_some(player, line, text);
         turns -= 1;
     }
-    let player = turn.player;
     player
 }
 
@@ -152,6 +173,7 @@ fn main() {
     // the last line may lack its LF
     if 0 < player.length {
         let player = line_ended(player, true, &line, &mut text);
-        flushed(&text, player.at, 0);
+        let output = player.output;
+        output::flushed(&text, output);
     }
 }

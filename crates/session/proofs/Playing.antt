@@ -24,30 +24,28 @@ use Rattle.chip.specs.declared.Chip.{Chip}
 use Rattle.chip.specs.declared.Opened.{Opened}
 use Rattle.chip.specs.declared.Fed.{Fed}
 use Rattle.chip.specs.Chip.{atResetOf, feedOf}
-use Rattle.update.specs.declared.ListAnswer.{ListAnswer}
-use Rattle.update.specs.Update.{listNumber}
 use Rattle.faults.specs.declared.Answer as faults
 use Rattle.faults.specs.Faults.{faultsAnswer, faultsResult}
 use Rattle.history.specs.declared.Request.{Request}
 use Rattle.history.specs.declared.Request.the-variants.{Scene}
 use Rattle.history.specs.declared.Stepped.{Stepped}
 use Rattle.history.specs.declared.Ledger.{Ledger}
-use Rattle.history.specs.declared.CallAnswer.the-variants.{Setting, List as ListOf}
 use Rattle.history.specs.Step.{stepOf}
 use Rattle.history.specs.Ledger.{openedLedger, enteredOf}
 use Rattle.script.specs.declared.command.Command.{Command}
 use Rattle.script.specs.declared.command.ListCall.{ListCall}
 use Rattle.session.specs.declared.run.Reply.{Reply}
-use Rattle.session.specs.declared.run.Reply.the-variants.{Bad as BadReply, Number, Bytes, Same, Differs}
+use Rattle.session.specs.declared.run.Reply.the-variants.{Bad as BadReply, Lent, Read, Bytes, Same, Differs}
 use Rattle.session.specs.declared.run.Session.{Session}
 use Rattle.session.specs.declared.run.Called.{Called}
 use Rattle.session.specs.declared.run.Ran.{Ran}
 use Rattle.script.specs.Words.{lengthTo, firstWord, behind, wordAt}
 use Rattle.script.specs.Bytes.{bytesOf}
-use Rattle.session.specs.Run.{plainly, numbered, openedSession, openBy, withWorld, callOf, callNumber, plainCall, listCall, callReply, listRan, fedSession, feedRan, faultsReply, behindBack, differsAt, compareFrom, compared, ranBy, shownBy, runOf, shownOf}
+use Rattle.session.specs.Run.{plainly, numbered, openedSession, openBy, withWorld, callOf, plainCall, listCall, listRan, fedSession, feedRan, behindBack, differsAt, compareFrom, compared, ranBy, shownBy, runOf, shownOf}
 use Rattle.script.specs.Commands.{commandOf}
 use Rattle.session.specs.Replies.{replyLine}
-use Rattle.session.specs.Play.{filled, sessionAfter, printed}
+use Rattle.session.specs.Play.{freshBuffer, sessionAfter, printed, longestLine}
+use Rattle.session.specs.PlayLaws.{printed-most}
 use Rattle.script.specs.CommandLaws.{isCall, call-length}
 
 -- ---- `check`
@@ -111,19 +109,10 @@ pub call-is : (s : Session) (q : Request) (lent : List ℕ) (g : Ledger) (x : St
 unfolding callOf
 call-is s q lent g x r eg ex e = e ∙ rw (eg, ex) refl
 
-pub plain-setting : (c : Called) (a : Answer) (r : Ran) → c .answer ≡ Setting a → r ≡ numbered a (c .session) → r ≡ plainCall c
-unfolding plainCall callNumber numbered
-plain-setting c a r ea e = e ∙ rw ea refl
-
-pub plain-list : (c : Called) (a : ListAnswer) (n : ℕ) (r : Ran) → c .answer ≡ ListOf a → n ≡ listNumber a →
-    r ≡ record { reply = Number n; room = 0; session = c .session } → r ≡ plainCall c
-unfolding plainCall callNumber plainly
-plain-list c a n r ea en e = e ∙ rw (ea, en) refl
-
-pub list-is : (s : Session) (k : ListCall) (room : ℕ) (lent : List ℕ) (c : Called) (y : Reply) → c ≡ listCall s k lent → y ≡ callReply k (c .answer) →
-    _≡_ {A = Ran} (record { reply = y; room = room; session = c .session }) (listRan k room (listCall s k lent))
+pub list-is : (s : Session) (k : ListCall) (room : ℕ) (lent : List ℕ) (c : Called) → c ≡ listCall s k lent →
+    _≡_ {A = Ran} (record { reply = Lent (c .answer); room = room; session = c .session }) (listRan room (listCall s k lent))
 unfolding listRan
-list-is s k room lent c y ec ey = rw (ey, ec) refl
+list-is s k room lent c ec = rw ec refl
 
 pub feed-is : (s : Session) (bytes : List ℕ) (x : Fed) (r : Ran) → x ≡ feedOf (s .world .chip) bytes →
     r ≡ numbered (x .answer) (record { world = record { state = s .world .state; chip = x .chip }; ledger = s .ledger; valid = s .valid }) → r ≡ feedRan s bytes
@@ -190,15 +179,15 @@ fed-bytes s old w new n x r hw ho p ex e =
 pub list-shown : (x old : List ℕ) (n : ℕ) (y : List ℕ) → n ≤ 4096 → length old ≡ 4096 → length x ≡ length (take n old) → x ≡ y → take n (x ++ drop n old) ≡ y
 list-shown x old n y hn ho e ey = front x (drop n old) n (e ∙ length-take-le n old (omega arith)) ∙ ey
 
-pub faults-shown : (m : ℕ) (zeros w new old x : List ℕ) (k n : ℕ) (a : faults.Answer) (y : Reply) (s : Session) →
+pub faults-shown : (m : ℕ) (zeros w new old x : List ℕ) (k n : ℕ) (a : faults.Answer) (s : Session) →
     length w ≤ 8192 → length zeros ≡ 4096 → Puts zeros 0 (bytesOf w) new k → n ≤ 4096 → length old ≡ 4096 → length x ≡ length (take n old) →
-    a ≡ faultsAnswer m (take k new) (take n old) → x ≡ faultsResult m (take k new) (take n old) → y ≡ faultsReply a →
-    (_≡_ {A = Ran} (record { reply = y; room = n; session = s })
-    (record { reply = faultsReply (faultsAnswer m (bytesOf w) (take n old)); room = n; session = s }))
+    a ≡ faultsAnswer m (take k new) (take n old) → x ≡ faultsResult m (take k new) (take n old) →
+    (_≡_ {A = Ran} (record { reply = Read a; room = n; session = s })
+    (record { reply = Read (faultsAnswer m (bytesOf w) (take n old)); room = n; session = s }))
     × (take n (x ++ drop n old) ≡ faultsResult m (bytesOf w) (take n old))
-faults-shown m zeros w new old x k n a y s hw hz p hn ho ex ea er ey =
+faults-shown m zeros w new old x k n a s hw hz p hn ho ex ea er =
     let given = decoded zeros (bytesOf w) new k (bytes-room w zeros hw hz) p .1 in
-    (rw (ey, ea, given) refl, list-shown x old n (faultsResult m (bytesOf w) (take n old)) hn ho ex (er ∙ ap (λ (g : List ℕ). faultsResult m g (take n old)) given))
+    (rw (ea, given) refl, list-shown x old n (faultsResult m (bytesOf w) (take n old)) hn ho ex (er ∙ ap (λ (g : List ℕ). faultsResult m g (take n old)) given))
 
 -- ---- `settings`, `image`, `chip`
 
@@ -227,12 +216,13 @@ unfolding runOf shownOf
 ran-shown s l b e c r n ec er en h es =
     (er ∙ ap (λ (x : Command). ranBy s x l b) ec, (rw en (es ∙ ap (λ (x : Command). shownBy s x l b) ec), omega (arith, en)))
 
--- ---- a line, played: the buffer is `filled` before it and e after it
+-- ---- a line, played: the buffer is fresh before it and e after it
 
-pub played : (s : Session) (l e : List ℕ) (r : Ran) (old new : List ℕ) (at n : ℕ) → (r ≡ runOf s l filled) × ((take (r .room) e ≡ shownOf s l filled) × (r .room ≤ 4096)) →
-    Puts old at (replyLine (r .reply) (take (r .room) e)) new n → (r .session ≡ sessionAfter s l) × Puts old at (printed s l) new n
+pub played : (s : Session) (l e : List ℕ) (r : Ran) (old new : List ℕ) (at n : ℕ) → (r ≡ runOf s l freshBuffer) × ((take (r .room) e ≡ shownOf s l freshBuffer) × (r .room ≤ 4096)) →
+    Puts old at (replyLine (r .reply) (take (r .room) e)) new n → (r .session ≡ sessionAfter s l) × (Puts old at (printed s l) new n × (length (printed s l) ≤ longestLine))
 unfolding sessionAfter printed
 played s l e r old new at n ran p =
-    let reply : replyLine (r .reply) (take (r .room) e) ≡ replyLine (runOf s l filled .reply) (shownOf s l filled) =
-    ap (λ (b : List ℕ). replyLine (r .reply) b) (ran .1 .0) ∙ ap (λ (x : Ran). replyLine (x .reply) (shownOf s l filled)) (ran .0) in
-    (ap (λ (x : Ran). x .session) (ran .0), puts-as old at _ _ new n reply p)
+    let reply : replyLine (r .reply) (take (r .room) e) ≡ replyLine (runOf s l freshBuffer .reply) (shownOf s l freshBuffer) =
+    ap (λ (b : List ℕ). replyLine (r .reply) b) (ran .1 .0) ∙ ap (λ (x : Ran). replyLine (x .reply) (shownOf s l freshBuffer)) (ran .0) in
+    let most : length (shownOf s l freshBuffer) ≤ 4096 = omega (arith, ap length (ran .1 .0), length-take (r .room) e, ran .1 .1) in
+    (ap (λ (x : Ran). x .session) (ran .0), (puts-as old at _ _ new n reply p, printed-most s l most))

@@ -9,13 +9,17 @@ use Rattle.session.specs.Run.{runOf, shownOf}
 use Rattle.session.specs.Replies.{replyLine}
 
 -- "A buffer of L bytes (L at most 4,096 ..) is lent filled with A5h": it is the first L bytes of this
-unfoldable pub filled : List ℕ
-filled = replicate 4096 0xA5
+unfoldable pub freshBuffer : List ℕ
+freshBuffer = replicate 4096 0xA5
 
 -- the session after a line
 unfoldable pub sessionAfter : Session → List ℕ → Session
-sessionAfter s l = runOf s l filled .session
+sessionAfter s l = runOf s l freshBuffer .session
 
 -- the line that it prints: its reply, "and after the call ALL its L bytes are printed"
 unfoldable pub printed : Session → List ℕ → List ℕ
-printed s l = replyLine (runOf s l filled .reply) (shownOf s l filled)
+printed s l = replyLine (runOf s l freshBuffer .reply) (shownOf s l freshBuffer)
+
+-- no line prints more bytes, its LF counted (PlayLaws): `0 n t BUFFER` with three digits for n and for t, and 4,096 bytes
+abbrev pub longestLine : ℕ
+longestLine = 8203

@@ -2,13 +2,24 @@
 -- Assumes nothing.
 use mathlib.Core.List.{List, [], _∷_, _++_}
 use Prim.Native.Nat.{ℕ}
-use Rattle.text.specs.Text.{addressText, decimalText, bytesText}
+use Rattle.faults.specs.Faults.{answerNumbers}
+use Rattle.history.specs.Step.{callNumbers}
+use Rattle.text.specs.Text.{addressText, decimalText, eachText, bytesText}
 use Rattle.session.specs.declared.run.Reply.{Reply}
-use Rattle.session.specs.declared.run.Reply.the-variants.{Bad, Number, Listed, Short, Refused, Bytes, Same, Differs}
+use Rattle.session.specs.declared.run.Reply.the-variants.{Bad, Answered, Lent, Read, Bytes, Same, Differs}
 
--- `N BUFFER`
-unfoldable pub withBytes : ℕ → List ℕ → List ℕ
-withBytes n b = decimalText n ++ (0x20 ∷ bytesText b)
+-- a value of an answer stands behind a space
+unfoldable pub valueText : ℕ → List ℕ
+valueText v = 0x20 ∷ decimalText v
+
+-- the number of an answer and its values: `0 n t`, `10 NEEDED`, `0 O S`, `N`
+unfoldable pub numbersText : List ℕ → List ℕ
+numbersText [] = []
+numbersText (n ∷ values) = decimalText n ++ eachText valueText values
+
+-- BUFFER stands behind a space
+unfoldable pub lentText : List ℕ → List ℕ
+lentText b = 0x20 ∷ bytesText b
 
 -- `same`
 abbrev pub sameWord : List ℕ
@@ -23,13 +34,11 @@ unfoldable pub replyText : Reply → List ℕ → List ℕ
 -- `?`
 replyText Bad b = 0x3F ∷ []
 -- "`0` or the refusal number"
-replyText (Number n) b = decimalText n
--- `0 n t BUFFER`
-replyText (Listed n t) b = 0x30 ∷ 0x20 ∷ (decimalText n ++ (0x20 ∷ withBytes t b))
--- `10 NEEDED BUFFER`
-replyText (Short needed) b = 0x31 ∷ 0x30 ∷ 0x20 ∷ withBytes needed b
--- `10 BUFFER`, `14 BUFFER`, `N BUFFER`
-replyText (Refused n) b = withBytes n b
+replyText (Answered answer) b = numbersText (callNumbers answer)
+-- "`0 n t BUFFER`, or `10 NEEDED BUFFER`, or `14 BUFFER`"; "`10 BUFFER`" of a Reset or a Clear
+replyText (Lent answer) b = numbersText (callNumbers answer) ++ lentText b
+-- "`0 O S BUFFER` (O, S: 1 if 064h bit 1, bit 0 agrees, else 0), or `N BUFFER`"
+replyText (Read answer) b = numbersText (answerNumbers answer) ++ lentText b
 -- "1,816 hex digits"
 replyText Bytes b = bytesText b
 -- `same`

@@ -7,21 +7,19 @@ use Prim.Native.Nat.{ℕ, zero, suc}
 use lib.Dec.{eqb}
 use lib.ListN.{length, getD, take, drop, set}
 use Rattle.map.specs.Map.{writableOf}
-use Rattle.map.specs.Refusals.{answerNumber, openAnswer}
+use Rattle.map.specs.Refusals.{openAnswer}
 use Rattle.map.specs.declared.refusals.Answer as answers
 use Rattle.host.specs.declared.Record.{Record}
 use Rattle.host.specs.Record.{openOf}
 use Rattle.chip.specs.declared.Chip.{Chip}
 use Rattle.chip.specs.Chip.{atResetOf, feedOf}
-use Rattle.update.specs.declared.ListAnswer as list
-use Rattle.update.specs.Update.{listNumber, clearOpensBuffer, clearShortsBuffer}
-use Rattle.faults.specs.declared.Answer as faults
-use Rattle.faults.specs.Faults.{answerNumbers, faultsAnswer, faultsResult}
+use Rattle.update.specs.Update.{clearOpensBuffer, clearShortsBuffer}
+use Rattle.faults.specs.Faults.{faultsAnswer, faultsResult}
 use Rattle.history.specs.declared.World.{World}
 use Rattle.history.specs.declared.Stepped.{Stepped}
 use Rattle.history.specs.declared.Request.{Request}
 use Rattle.history.specs.declared.Request.the-variants as requests
-use Rattle.history.specs.declared.CallAnswer as calls
+use Rattle.history.specs.declared.CallAnswer.the-variants.{Setting}
 use Rattle.history.specs.Step.{stepOf, lentAfter, clearOpensStep, clearShortsStep}
 use Rattle.history.specs.Ledger.{openedLedger, enteredOf}
 use Rattle.script.specs.Words.{wordAt}
@@ -32,7 +30,7 @@ use Rattle.script.specs.declared.keywords.Entry as entries
 use Rattle.script.specs.declared.command.ListCall as lists
 use Rattle.script.specs.declared.command.Command as commands
 use Rattle.session.specs.declared.run.Reply.{Reply}
-use Rattle.session.specs.declared.run.Reply.the-variants.{Bad, Number, Listed, Short, Refused, Bytes, Same, Differs}
+use Rattle.session.specs.declared.run.Reply.the-variants.{Bad, Answered, Lent, Read, Bytes, Same, Differs}
 use Rattle.session.specs.declared.run.Session.{Session}
 use Rattle.session.specs.declared.run.Called.{Called}
 use Rattle.session.specs.declared.run.Ran.{Ran}
@@ -43,7 +41,7 @@ plainly reply s = record { reply = reply; room = 0; session = s }
 
 -- "`0` or number"
 unfoldable pub numbered : answers.Answer → Session → Ran
-numbered answer s = plainly (Number (answerNumber answer)) s
+numbered answer s = plainly (Answered (Setting answer)) s
 
 -- ---- `open`
 
@@ -70,14 +68,9 @@ withWorld s x = record { answer = x .answer; session = record { world = x .world
 unfoldable pub callOf : Session → Request → List ℕ → Called
 callOf s q lent = withWorld (record { world = s .world; ledger = enteredOf (s .ledger) q lent; valid = s .valid }) (stepOf (s .world) q lent)
 
--- "`0` or number": the number of an answer
-unfoldable pub callNumber : calls.CallAnswer → ℕ
-callNumber (calls.the-variants.Setting answer) = answerNumber answer
-callNumber (calls.the-variants.List answer) = listNumber answer
-
 -- `register`, `lamp`, `group`, `switch`, `scene`, `power`: "`0` or number"
 unfoldable pub plainCall : Called → Ran
-plainCall x = plainly (Number (callNumber (x .answer))) (x .session)
+plainCall x = plainly (Answered (x .answer)) (x .session)
 
 -- `update L`, `reset L`, `clearopens L`, `clearshorts L`
 unfoldable pub listCall : Session → lists.ListCall → List ℕ → Called
@@ -93,27 +86,10 @@ listLent w lists.the-variants.Reset lent = lentAfter w requests.Reset lent
 listLent w lists.the-variants.ClearOpens lent = clearOpensBuffer (w .state) lent
 listLent w lists.the-variants.ClearShorts lent = clearShortsBuffer (w .state) lent
 
--- "`10 NEEDED BUFFER`" of an Update, "`10 BUFFER`" of the others
-unfoldable pub shortReply : lists.ListCall → ℕ → ℕ → Reply
-shortReply lists.the-variants.Update needed n = Short needed
-shortReply lists.the-variants.Reset needed n = Refused n
-shortReply lists.the-variants.ClearOpens needed n = Refused n
-shortReply lists.the-variants.ClearShorts needed n = Refused n
-
--- "`0 n t BUFFER`, or `10 NEEDED BUFFER`, or `14 BUFFER`"
-unfoldable pub listReply : lists.ListCall → list.ListAnswer → Reply
-listReply k (list.the-variants.Listed n t) = Listed n t
-listReply k (list.the-variants.Short needed) = shortReply k needed (listNumber (list.the-variants.Short needed))
-listReply k (list.the-variants.Refused r) = Refused (listNumber (list.the-variants.Refused r))
-
--- what `update L`, `reset L`, `clearopens L`, `clearshorts L` print: "An Update, Reset or Clear prints its own answer"
-unfoldable pub callReply : lists.ListCall → calls.CallAnswer → Reply
-callReply k (calls.the-variants.Setting answer) = Number (answerNumber answer)
-callReply k (calls.the-variants.List answer) = listReply k answer
-
--- their reply, the L bytes that are shown, and the record and chip after the call: "an accepted list .. is fed to the chip model at once"
-unfoldable pub listRan : lists.ListCall → ℕ → Called → Ran
-listRan k n x = record { reply = callReply k (x .answer); room = n; session = x .session }
+-- "An Update, Reset or Clear prints its own answer", the L bytes that are shown, and the record and chip after the call: "an accepted
+-- list .. is fed to the chip model at once"
+unfoldable pub listRan : ℕ → Called → Ran
+listRan n x = record { reply = Lent (x .answer); room = n; session = x .session }
 
 -- ---- `feed`, `faults`
 
@@ -124,15 +100,6 @@ fedSession s c = record { world = record { state = s .world .state; chip = c }; 
 -- "`0` or `11` or `14`"
 unfoldable pub feedRan : Session → List ℕ → Ran
 feedRan s bytes = numbered (feedOf (s .world .chip) bytes .answer) (fedSession s (feedOf (s .world .chip) bytes .chip))
-
--- "O, S: 1 if 064h bit 1, bit 0 agrees, else 0"
-unfoldable pub agreesDigit : Bool → ℕ
-agreesDigit agrees = cond agrees 1 0
-
--- "`0 O S BUFFER` .., or `N BUFFER`"
-unfoldable pub faultsReply : faults.Answer → Reply
-faultsReply (faults.the-variants.Read opens shorts) = Listed (agreesDigit opens) (agreesDigit shorts)
-faultsReply (faults.the-variants.Refused r) = Refused (getD (answerNumbers (faults.the-variants.Refused r)) 0 0)
 
 -- ---- `settings`, `image`, `chip`
 
@@ -196,10 +163,10 @@ ranBy s commands.the-variants.Bad l b = plainly Bad s
 ranBy s (commands.the-variants.Open m bus p) l b = openBy (openAnswer m bus p) s m bus p
 ranBy s (commands.the-variants.Setting q) l b = plainCall (callOf s q b)
 ranBy s commands.the-variants.Scene l b = plainCall (callOf s requests.Scene (bytesOf (wordAt l 1)))
-ranBy s (commands.the-variants.List k n) l b = listRan k n (listCall s k (take n b))
+ranBy s (commands.the-variants.List k n) l b = listRan n (listCall s k (take n b))
 ranBy s commands.the-variants.Power l b = plainCall (callOf s requests.PowerLost b)
 ranBy s commands.the-variants.Feed l b = feedRan s (bytesOf (wordAt l 1))
-ranBy s (commands.the-variants.Faults m n) l b = record { reply = faultsReply (faultsAnswer m (bytesOf (wordAt l 2)) (take n b)); room = n; session = s }
+ranBy s (commands.the-variants.Faults m n) l b = record { reply = Read (faultsAnswer m (bytesOf (wordAt l 2)) (take n b)); room = n; session = s }
 ranBy s (commands.the-variants.Show p) l b = record { reply = Bytes; room = length (partBytes s p); session = s }
 ranBy s (commands.the-variants.Poke p a v) l b = behindBack s (pokedRecord (s .world .state) p a v) (pokedChip (s .world .chip) p a v)
 ranBy s (commands.the-variants.Header e v) l b = behindBack s (headedRecord (s .world .state) e v) (headedChip (s .world .chip) e v)

@@ -7,10 +7,15 @@ mod print;
 mod run;
 
 ghost use mathlib.Core.Path.{_≡_};
-ghost use Rattle.session.specs.Play.{sessionAfter, printed};
+ghost use Prim.Native.Nat.{_≤_};
+ghost use lib.ListN.{length};
+ghost use Rattle.session.specs.Play.{sessionAfter, printed, longestLine};
 ghost use Rattle.text.specs.Text.{Puts};
 pub use run::Session;
 pub use run::start;
+
+// No line prints more bytes, its LF counted.
+pub const LONGEST_LINE: usize = 8203;
 
 // The session after a line, and the place of the text behind what the line prints.
 pub struct Played {
@@ -18,10 +23,11 @@ pub struct Played {
     pub at: usize,
 }
 
-// A line of any bytes and any length, without its LF.
+// A line of any bytes and any length, without its LF. With room for the longest line behind its place the text has all that it prints.
 pub fn play(session: Session, line: &[u8], text: &mut [u8], at: usize) -> Played
     ensures { λ r. ⌜ r .session ≡ sessionAfter session (now (line .entry)) ⌝ }
     ensures { λ r. ⌜ Puts (now (text .entry)) at (printed session (now (line .entry))) (now (text .exit)) (r .at) ⌝ }
+    ensures { λ _. ⌜ length (printed session (now (line .entry))) ≤ longestLine ⌝ }
 {
     let mut buffer = [0xA5u8; run::ROOM];
     let ran = run::run(session, line, &mut buffer);

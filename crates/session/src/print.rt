@@ -1,39 +1,85 @@
 // Replies as lines of text.
-ghost use mathlib.Core.List.{_∷_, _++_};
-ghost use Rattle.session.specs.Replies.{withBytes, differsWord, replyText, replyLine};
-ghost use Rattle.text.specs.Text.{Puts, addressText, decimalText};
+ghost use mathlib.Core.Path.{_≡_};
+ghost use mathlib.Core.Bool.{cond};
+ghost use mathlib.Core.List.{_++_};
+ghost use Rattle.update.specs.Update.{listNumbers};
+ghost use Rattle.faults.specs.Faults.{answerNumbers};
+ghost use Rattle.history.specs.Step.{callNumbers};
+ghost use Rattle.session.specs.Replies.{valueText, numbersText, lentText, differsWord, replyText, replyLine};
+ghost use Rattle.text.specs.Text.{Puts, addressText};
 use crate::run::Reply;
+use history::CallAnswer;
 use text::put;
 use text::put_address;
 use text::put_bytes;
 use text::put_decimal;
 use text::put_text;
+use update::ListAnswer;
 
-// `N BUFFER`
-fn put_with_bytes(text: &mut [u8], at: usize, number: usize, bytes: &[u8]) -> usize
-    ensures { λ r. ⌜ Puts (now (text .entry)) at (withBytes number (now (bytes .entry))) (now (text .exit)) r ⌝ }
+// ` V`
+fn put_value(text: &mut [u8], at: usize, value: usize) -> usize
+    ensures { λ r. ⌜ Puts (now (text .entry)) at (valueText value) (now (text .exit)) r ⌝ }
 {
-    let next = put_decimal(text, at, number);
-    let next = put(text, next, b' ');
+    let next = put(text, at, b' ');
+    put_decimal(text, next, value)
+}
+
+// ` V W`
+fn put_values(text: &mut [u8], at: usize, first: usize, second: usize) -> usize
+    ensures { λ r. ⌜ Puts (now (text .entry)) at (valueText first ++ valueText second) (now (text .exit)) r ⌝ }
+{
+    let next = put_value(text, at, first);
+    put_value(text, next, second)
+}
+
+// `0 n t`, `10 NEEDED`, or the refusal's number
+fn put_list_answer(text: &mut [u8], at: usize, answer: ListAnswer) -> usize
+    ensures { λ r. ⌜ Puts (now (text .entry)) at (numbersText (listNumbers answer)) (now (text .exit)) r ⌝ }
+{
+    let next = put_decimal(text, at, update::list_number(answer) as usize);
+    match answer {
+        ListAnswer::Listed { n, t } => put_values(text, next, n, t),
+        ListAnswer::Short { needed } => put_value(text, next, needed),
+        ListAnswer::Refused(_) => next,
+    }
+}
+
+fn put_answer(text: &mut [u8], at: usize, answer: CallAnswer) -> usize
+    ensures { λ r. ⌜ Puts (now (text .entry)) at (numbersText (callNumbers answer)) (now (text .exit)) r ⌝ }
+{
+    match answer {
+        CallAnswer::Setting(answer) => put_decimal(text, at, map::answer_number(answer) as usize),
+        CallAnswer::List(answer) => put_list_answer(text, at, answer),
+    }
+}
+
+// 1 where 064h agrees.
+fn digit(agrees: bool) -> usize
+    ensures { λ r. ⌜ r ≡ cond agrees 1 0 ⌝ }
+{
+    if agrees { 1 } else { 0 }
+}
+
+// `0 O S`, or the refusal's number
+fn put_faults_answer(text: &mut [u8], at: usize, answer: faults::Answer) -> usize
+    ensures { λ r. ⌜ Puts (now (text .entry)) at (numbersText (answerNumbers answer)) (now (text .exit)) r ⌝ }
+{
+    let next = put_decimal(text, at, faults::answer_number(answer) as usize);
+    match answer {
+        faults::Answer::Read {
+            opens_agree,
+            shorts_agree,
+        } => put_values(text, next, digit(opens_agree), digit(shorts_agree)),
+        faults::Answer::Refused(_) => next,
+    }
+}
+
+// ` BUFFER`
+fn put_lent(text: &mut [u8], at: usize, bytes: &[u8]) -> usize
+    ensures { λ r. ⌜ Puts (now (text .entry)) at (lentText (now (bytes .entry))) (now (text .exit)) r ⌝ }
+{
+    let next = put(text, at, b' ');
     put_bytes(text, next, bytes)
-}
-
-// `10 NEEDED BUFFER`
-fn put_short(text: &mut [u8], at: usize, needed: usize, bytes: &[u8]) -> usize
-    ensures { λ r. ⌜ Puts (now (text .entry)) at (0x31 ∷ 0x30 ∷ 0x20 ∷ withBytes needed (now (bytes .entry))) (now (text .exit)) r ⌝ }
-{
-    let next = put_text(text, at, b"10 ");
-    put_with_bytes(text, next, needed, bytes)
-}
-
-// `0 n t BUFFER`
-fn put_listed(text: &mut [u8], at: usize, n: usize, t: usize, bytes: &[u8]) -> usize
-    ensures { λ r. ⌜ Puts (now (text .entry)) at (0x30 ∷ 0x20 ∷ (decimalText n ++ (0x20 ∷ withBytes t (now (bytes .entry))))) (now (text .exit)) r ⌝ }
-{
-    let next = put_text(text, at, b"0 ");
-    let next = put_decimal(text, next, n);
-    let next = put(text, next, b' ');
-    put_with_bytes(text, next, t, bytes)
 }
 
 // `differs A`
@@ -49,10 +95,15 @@ fn put_reply(text: &mut [u8], at: usize, reply: Reply, bytes: &[u8]) -> usize
 {
     match reply {
         Reply::Bad => put(text, at, b'?'),
-        Reply::Number(number) => put_decimal(text, at, number as usize),
-        Reply::Listed(n, t) => put_listed(text, at, n, t, bytes),
-        Reply::Short(needed) => put_short(text, at, needed, bytes),
-        Reply::Refused(number) => put_with_bytes(text, at, number as usize, bytes),
+        Reply::Answered(answer) => put_answer(text, at, answer),
+        Reply::Lent(answer) => {
+            let next = put_answer(text, at, answer);
+            put_lent(text, next, bytes)
+        }
+        Reply::Read(answer) => {
+            let next = put_faults_answer(text, at, answer);
+            put_lent(text, next, bytes)
+        }
         Reply::Bytes => put_bytes(text, at, bytes),
         Reply::Same => put_text(text, at, b"same"),
         Reply::Differs(address) => put_differs(text, at, address),

@@ -8,7 +8,7 @@ ghost use Rattle.faults.specs.Faults.{faultsAnswer, faultsResult};
 ghost use Rattle.history.specs.Step.{lentAfter};
 ghost use Rattle.history.specs.Ledger.{openedLedger};
 ghost use Rattle.script.specs.Bytes.{bytesOf};
-ghost use Rattle.session.specs.Run.{numbered, openedSession, openBy, withWorld, callOf, plainCall, listCall, listLent, shortReply, listReply, callReply, listRan, feedRan, agreesDigit, faultsReply, partBytes, pokedRecord, pokedChip, headedRecord, headedChip, behindBack, differsAt, compareFrom, compared, plainly, runOf, shownOf};
+ghost use Rattle.session.specs.Run.{numbered, openedSession, openBy, withWorld, callOf, plainCall, listCall, listLent, listRan, feedRan, partBytes, pokedRecord, pokedChip, headedRecord, headedChip, behindBack, differsAt, compareFrom, compared, plainly, runOf, shownOf};
 use chip::Chip;
 use history::CallAnswer;
 use history::Ledger;
@@ -21,7 +21,6 @@ use script::Command;
 use script::Entry;
 use script::ListCall;
 use script::Part;
-use update::ListAnswer;
 
 // The longest buffer that is lent. It holds the byte string of any line too.
 pub(crate) const ROOM: usize = 4096;
@@ -38,14 +37,12 @@ pub struct Session {
 pub(crate) enum Reply {
     // `?`
     Bad,
-    // `0`, or the refusal's number
-    Number(u8),
-    // `0 n t BUFFER`
-    Listed(usize, usize),
-    // `10 NEEDED BUFFER`
-    Short(usize),
-    // `N BUFFER`
-    Refused(u8),
+    // the numbers of the answer: `0`, or the refusal's number
+    Answered(CallAnswer),
+    // they and the buffer: `0 n t BUFFER`, `10 NEEDED BUFFER`, `N BUFFER`
+    Lent(CallAnswer),
+    // `0 O S BUFFER`, `N BUFFER`
+    Read(faults::Answer),
     // the bytes alone
     Bytes,
     // `same`
@@ -97,7 +94,7 @@ fn number(answer: Answer, session: Session) -> Ran
     ensures { λ r. ⌜ r ≡ numbered answer session ⌝ }
 {
     Ran {
-        reply: Reply::Number(map::answer_number(answer)),
+        reply: Reply::Answered(CallAnswer::Setting(answer)),
         room: 0,
         session: session,
     }
@@ -149,13 +146,10 @@ fn plain(called: Called) -> Ran
 {
     let answer = called.answer;
     let session = called.session;
-    match answer {
-        CallAnswer::Setting(answer) => number(answer, session),
-        CallAnswer::List(answer) => Ran {
-            reply: Reply::Number(update::list_number(answer)),
-            room: 0,
-            session: session,
-        },
+    Ran {
+        reply: Reply::Answered(answer),
+        room: 0,
+        session: session,
     }
 }
 
@@ -180,48 +174,16 @@ fn list_called(session: Session, kind: ListCall, lent: &mut [u8]) -> Called
     }
 }
 
-// Only Update says how many bytes it needs.
-fn short_reply(kind: ListCall, needed: usize, number: u8) -> Reply
-    ensures { λ r. ⌜ r ≡ shortReply kind needed number ⌝ }
-{
-    match kind {
-        ListCall::Update => Reply::Short(needed),
-        ListCall::Reset => Reply::Refused(number),
-        ListCall::ClearOpens => Reply::Refused(number),
-        ListCall::ClearShorts => Reply::Refused(number),
-    }
-}
-
-fn list_reply(kind: ListCall, answer: ListAnswer) -> Reply
-    ensures { λ r. ⌜ r ≡ listReply kind answer ⌝ }
-{
-    let number = update::list_number(answer);
-    match answer {
-        ListAnswer::Listed { n, t } => Reply::Listed(n, t),
-        ListAnswer::Short { needed } => short_reply(kind, needed, number),
-        ListAnswer::Refused(_) => Reply::Refused(number),
-    }
-}
-
-fn reply_of(kind: ListCall, answer: CallAnswer) -> Reply
-    ensures { λ r. ⌜ r ≡ callReply kind answer ⌝ }
-{
-    match answer {
-        CallAnswer::Setting(answer) => Reply::Number(map::answer_number(answer)),
-        CallAnswer::List(answer) => list_reply(kind, answer),
-    }
-}
-
 fn list(session: Session, kind: ListCall, room: usize, buffer: &mut [u8]) -> Ran
     requires { ⌜ (room ≤ 4096) × (length (now buffer) ≡ 4096) ⌝ }
-    ensures { λ r. ⌜ r ≡ listRan kind room (listCall session kind (take room (now (buffer .entry)))) ⌝ }
+    ensures { λ r. ⌜ r ≡ listRan room (listCall session kind (take room (now (buffer .entry)))) ⌝ }
     ensures { λ _. ⌜ take room (now (buffer .exit)) ≡ listLent (session .world) kind (take room (now (buffer .entry))) ⌝ }
 {
     let called = list_called(session, kind, &mut buffer[..room]);
     let answer = called.answer;
     let session = called.session;
     Ran {
-        reply: reply_of(kind, answer),
+        reply: Reply::Lent(answer),
         room: room,
         session: session,
     }
@@ -242,37 +204,17 @@ fn feed(mut session: Session, word: &[u8], buffer: &mut [u8]) -> Ran
     number(answer, session)
 }
 
-// 1 where 064h agrees.
-fn digit(agrees: bool) -> usize
-    ensures { λ r. ⌜ r ≡ agreesDigit agrees ⌝ }
-{
-    if agrees { 1 } else { 0 }
-}
-
-fn faults_reply(answer: faults::Answer) -> Reply
-    ensures { λ r. ⌜ r ≡ faultsReply answer ⌝ }
-{
-    let number = faults::answer_number(answer);
-    match answer {
-        faults::Answer::Read {
-            opens_agree,
-            shorts_agree,
-        } => Reply::Listed(digit(opens_agree), digit(shorts_agree)),
-        faults::Answer::Refused(_) => Reply::Refused(number),
-    }
-}
-
 // The byte string goes to the buffer `given`, the result to the one that is shown.
 fn faults(session: Session, member: usize, word: &[u8], room: usize, buffer: &mut [u8]) -> Ran
     requires { ⌜ (length (now word) ≤ 8192) × (room ≤ 4096) × (length (now buffer) ≡ 4096) ⌝ }
-    ensures { λ r. ⌜ r ≡ record { reply = faultsReply (faultsAnswer member (bytesOf (now (word .entry))) (take room (now (buffer .entry)))); room = room; session = session } ⌝ }
+    ensures { λ r. ⌜ r ≡ record { reply = Reply.Read (faultsAnswer member (bytesOf (now (word .entry))) (take room (now (buffer .entry)))); room = room; session = session } ⌝ }
     ensures { λ _. ⌜ take room (now (buffer .exit)) ≡ faultsResult member (bytesOf (now (word .entry))) (take room (now (buffer .entry))) ⌝ }
 {
     let mut given = io::buffer();
     let n = script::decode(word, &mut given);
     let answer = faults::faults(member, &given[..n], &mut buffer[..room]);
     Ran {
-        reply: faults_reply(answer),
+        reply: Reply::Read(answer),
         room: room,
         session: session,
     }

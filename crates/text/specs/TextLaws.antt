@@ -174,3 +174,12 @@ each-length f k h (v ∷ vs) = length-append (f v) (eachText f vs) ∙ rw (h v, 
 pub spaced-bytes-length : (vs : List ℕ) → length (spacedBytesText vs) ≡ 3 * length vs
 unfolding spacedBytesText spacedText byteText
 spaced-bytes-length vs = each-length spacedText 3 (λ v. refl) vs
+
+-- two digits for each byte, and `-` where there is none
+pub bytes-length : (n : ℕ) (vs : List ℕ) → 1 ≤ n → 2 * length vs ≤ n → length (bytesText vs) ≤ n
+unfolding bytesText
+bytes-length n vs one h = go (eqb (length vs) 0)
+  where
+    go : (b : Bool) → length (cond b (0x2D ∷ []) (eachText byteText vs)) ≤ n
+    go true = one
+    go false = omega (arith, each-length byteText 2 byte-length vs)

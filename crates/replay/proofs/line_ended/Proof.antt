@@ -1,8 +1,9 @@
 -- `replay::line_ended` meets its contract.
 -- Assumes nothing.
-use lib.Seq.{length-take-le}
-use mathlib.Core.Path.{sym}
 use native.Mathlib.Omega.{arith}
+use mathlib.Core.Path.{sym}
+use lib.Seq.{length-take-le}
+use Rattle.replay.specs.OutputLaws.{room-waits}
 use borrow.Author.Needs.{needs}
 use Rattle.replay.proofs.line_ended.Statement.{statement}
 use Rattle.replay.proofs.line_ended.Tie as tie
@@ -11,17 +12,24 @@ returns : tie.Need-returns
 returns c = search needs
 
 slice-aggregate-play : tie.Need-slice-aggregate-play
-slice-aggregate-play c = sym (length-take-le _ _ (omega arith))
+slice-aggregate-play c = sym (length-take-le _ _ (c .before .before .before .before .pre .0))
 
 play-requires : tie.Need-play-requires
 play-requires c κs = search needs
+
+with-room-requires : tie.Need-with-room-requires
+with-room-requires c κs = search needs
 
 same-length : tie.Need-same-length
 same-length c = search needs
 
 returns-2 : tie.Need-returns-2
-returns-2 c = search needs
+returns-2 c =
+    let put = c .before .before .before .before .before .play .ensures in
+    let room = room-waits _ _ (put .1 .1 .0) (omega arith) in
+    (omega (arith, put .1 .1 .1), omega (arith, c .with-room .ensures, room))
 
 pub line-ended-spec : {M : Type 1} → statement M
 line-ended-spec =
-    tie.close (tie.spec returns slice-aggregate-play play-requires same-length returns-2)
+    tie.close
+    (tie.spec returns slice-aggregate-play play-requires with-room-requires same-length returns-2)

@@ -1,17 +1,19 @@
--- `replay::play_all` is safe and ends. The measure is the number of turns that are left.
+-- `replay::play_all` meets its contract. The measure is the number of turns that are left.
 -- Assumes nothing.
-use borrow.Author.Needs.{needs}
 use lib.ListN.{length}
 use mathlib.Core.Path.{_≡_}
-use Prim.Native.Nat.{_≤_}
+use Prim.Native.Nat.{_≤_, _+_}
+use Rattle.session.specs.Play.{longestLine}
+use borrow.Author.Needs.{needs}
 use Rattle.replay.proofs.play_all.Statement.{statement}
 use Rattle.replay.proofs.play_all.Tie as tie
 
 abbrev Inv-loop : tie.InvT-loop
-Inv-loop line₀ text₀ turn₀ turns₀ line text turn turns = (length line ≡ length line₀) × (length text ≡ length text₀) × (turn .player .length ≤ length line)
+Inv-loop line₀ text₀ player₀ turns₀ line text player turns =
+    (length line ≡ length line₀) × (length text ≡ length text₀) × (player .length ≤ length line) × (player .output .at + longestLine ≤ length text)
 
 abbrev μ-loop : tie.MeasureT-loop
-μ-loop line₀ text₀ turn₀ turns₀ line text turn turns = turns
+μ-loop line₀ text₀ player₀ turns₀ line text player turns = turns
 
 new-player-requires : tie.Need-new-player-requires Inv-loop μ-loop
 new-player-requires c κs = search needs
@@ -40,6 +42,15 @@ same-length-2 c = search needs
 returns : tie.Need-returns Inv-loop μ-loop
 returns c = search needs
 
+same-length-3 : tie.Need-same-length-3 Inv-loop μ-loop
+same-length-3 c = search needs
+
+same-length-4 : tie.Need-same-length-4 Inv-loop μ-loop
+same-length-4 c = search needs
+
+returns-2 : tie.Need-returns-2 Inv-loop μ-loop
+returns-2 c = search needs
+
 pub play-all-spec : {M : Type 1} → statement M
 play-all-spec =
     tie.close
@@ -54,4 +65,7 @@ play-all-spec =
     loop-again
     same-length
     same-length-2
-    returns)
+    returns
+    same-length-3
+    same-length-4
+    returns-2)

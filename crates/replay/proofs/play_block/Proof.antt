@@ -1,14 +1,17 @@
 -- `replay::play_block` meets its contract.
 -- Assumes nothing.
-use borrow.Author.Needs.{needs}
+use native.Mathlib.Omega.{arith}
 use lib.ListN.{length}
-use mathlib.Core.Path.{_≡_, refl}
+use mathlib.Core.Path.{_≡_}
 use Prim.Native.Nat.{_≤_, _+_, _-_}
+use Rattle.session.specs.Play.{longestLine}
+use borrow.Author.Needs.{needs}
 use Rattle.replay.proofs.play_block.Statement.{statement}
 use Rattle.replay.proofs.play_block.Tie as tie
 
 abbrev Inv-loop : tie.InvT-loop
-Inv-loop player₀ block line₀ text₀ from₀ player line text from = (length line ≡ length line₀) × (length text ≡ length text₀) × (player .length ≤ length line)
+Inv-loop player₀ block line₀ text₀ from₀ player line text from =
+    (length line ≡ length line₀) × (length text ≡ length text₀) × (player .length ≤ length line) × (player .output .at + longestLine ≤ length text)
 
 abbrev μ-loop : tie.MeasureT-loop
 μ-loop player₀ block line₀ text₀ from₀ player line text from = length block - from
@@ -35,7 +38,10 @@ line-ended-requires : tie.Need-line-ended-requires Inv-loop μ-loop
 line-ended-requires c κs = search needs
 
 add-from : tie.Need-add-from Inv-loop μ-loop
-add-from c = search needs
+add-from c =
+    let at-end = c .before .before .before .before .before .before .before .before .before .before in
+    let start = at-end .before .before .before .before .before .before .before .before in
+    omega (arith, at-end .line-end .ensures .1, start .pre .0)
 
 loop-less : tie.Need-loop-less Inv-loop μ-loop
 loop-less c = search needs
@@ -51,6 +57,15 @@ same-length-2 c = search needs
 
 returns : tie.Need-returns Inv-loop μ-loop
 returns c = search needs
+
+same-length-3 : tie.Need-same-length-3 Inv-loop μ-loop
+same-length-3 c = search needs
+
+same-length-4 : tie.Need-same-length-4 Inv-loop μ-loop
+same-length-4 c = search needs
+
+returns-2 : tie.Need-returns-2 Inv-loop μ-loop
+returns-2 c = search needs
 
 pub play-block-spec : {M : Type 1} → statement M
 play-block-spec =
@@ -70,4 +85,7 @@ play-block-spec =
     loop-again
     same-length
     same-length-2
-    returns)
+    returns
+    same-length-3
+    same-length-4
+    returns-2)

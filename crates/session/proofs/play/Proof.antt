@@ -4,7 +4,7 @@ use native.Mathlib.Omega.{arith}
 use lib.Seq.{length-take-le}
 use mathlib.Core.Path.{sym}
 use borrow.Author.Needs.{needs}
-use Rattle.session.specs.Play.{filled}
+use Rattle.session.specs.Play.{freshBuffer}
 use Rattle.session.proofs.Playing.{played}
 use Rattle.session.proofs.play.Statement.{statement}
 use Rattle.session.proofs.play.Tie as tie
@@ -28,7 +28,7 @@ same-length : tie.Need-same-length
 same-length c = search needs
 
 returns : tie.Need-returns
-unfolding filled
+unfolding freshBuffer
 returns c = played _ _ _ _ _ _ _ _ (c .before .before .before .before .before .before .before .run .ensures) (c .before .before .put-line .ensures)
 
 pub play-spec : {M : Type 1} → statement M

@@ -32,15 +32,13 @@ slice-aggregate-faults-2 c = sym (length-take-le _ _ (omega arith))
 faults-requires : tie.Need-faults-requires
 faults-requires c κs = search needs
 
-faults-reply-requires : tie.Need-faults-reply-requires
-faults-reply-requires c κs = search needs
-
 same-length : tie.Need-same-length
 same-length c = search needs
 
 returns : tie.Need-returns
-returns c = faults-shown _ _ _ _ _ _ _ _ _ _ _ (c .before .before .before .before .before .before .before .before .before .before .before .before .pre .0) (sym (c .before .before .before .before .before .before .before .before .before .buffer .ensures)) (c .before .before .before .before .before .before .before .decode .ensures .0) (c .before .before .before .before .before .before .before .before .before .before .before .before .pre .1) (c .before .before .before .before .before .before .before .before .before .before .before .before .pre .2) (c .before .before .before .faults .kept .1 .1 .0)
-    (c .before .before .before .faults .ensures .0) (c .before .before .before .faults .ensures .1) (c .faults-reply .ensures)
+returns c =
+    let start = c .before .before .before .before .before .before .before .before .before .before .before in
+    faults-shown _ _ _ _ _ _ _ _ _ _ (start .pre .0) (sym (c .before .before .before .before .before .before .before .before .buffer .ensures)) (c .before .before .before .before .before .before .decode .ensures .0) (start .pre .1) (start .pre .2) (c .before .before .faults .kept .1 .1 .0) (c .before .before .faults .ensures .0) (c .before .before .faults .ensures .1)
 
 pub faults-spec : {M : Type 1} → statement M
 faults-spec =
@@ -54,6 +52,5 @@ faults-spec =
     slice-relend-prefix-faults
     slice-aggregate-faults-2
     faults-requires
-    faults-reply-requires
     same-length
     returns)

@@ -1,10 +1,9 @@
 -- `session::run::list` meets its contract.
 -- Assumes nothing.
-use Rattle.session.proofs.Playing.{list-shown}
 use native.Mathlib.Omega.{arith}
-use Rattle.session.proofs.Playing.{list-is, front}
-use mathlib.Core.Path.{sym, _∙_}
+use mathlib.Core.Path.{sym}
 use lib.Seq.{length-take-le}
+use Rattle.session.proofs.Playing.{list-is, list-shown}
 use borrow.Author.Needs.{needs}
 use Rattle.session.proofs.run.list.Statement.{statement}
 use Rattle.session.proofs.run.list.Tie as tie
@@ -18,14 +17,11 @@ slice-aggregate-list-called c = sym (length-take-le _ _ (omega arith))
 list-called-requires : tie.Need-list-called-requires
 list-called-requires c κs = search needs
 
-reply-of-requires : tie.Need-reply-of-requires
-reply-of-requires c κs = search needs
-
 same-length : tie.Need-same-length
 same-length c = search needs
 
 returns : tie.Need-returns
-returns c = (list-is _ _ _ _ _ _ (c .before .before .before .before .list-called .ensures .0) (c .reply-of .ensures), list-shown _ _ _ _ (c .before .before .before .before .before .before .before .pre .0) (c .before .before .before .before .before .before .before .pre .1) (c .before .before .before .before .list-called .kept .1 .1 .0) (c .before .before .before .before .list-called .ensures .1))
+returns c = (list-is _ _ _ _ _ (c .before .before .before .list-called .ensures .0), list-shown _ _ _ _ (c .before .before .before .before .before .before .pre .0) (c .before .before .before .before .before .before .pre .1) (c .before .before .before .list-called .kept .1 .1 .0) (c .before .before .before .list-called .ensures .1))
 
 pub list-spec : {M : Type 1} → statement M
 list-spec =
@@ -34,6 +30,5 @@ list-spec =
     slice-relend-prefix-list-called
     slice-aggregate-list-called
     list-called-requires
-    reply-of-requires
     same-length
     returns)

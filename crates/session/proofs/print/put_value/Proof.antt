@@ -1,0 +1,23 @@
+-- `session::print::put_value` meets its contract.
+-- Assumes nothing.
+use Rattle.text.specs.TextLaws.{puts-then}
+use Rattle.session.specs.Replies.{valueText}
+use borrow.Author.Needs.{needs}
+use Rattle.session.proofs.print.put_value.Statement.{statement}
+use Rattle.session.proofs.print.put_value.Tie as tie
+
+put-requires : tie.Need-put-requires
+put-requires c κs = search needs
+
+put-decimal-requires : tie.Need-put-decimal-requires
+put-decimal-requires c κs = search needs
+
+same-length : tie.Need-same-length
+same-length c = search needs
+
+returns : tie.Need-returns
+unfolding valueText
+returns c = puts-then _ _ _ _ _ _ _ _ (c .before .before .before .before .before .before .put .ensures) (c .before .before .put-decimal .ensures)
+
+pub put-value-spec : {M : Type 1} → statement M
+put-value-spec = tie.close (tie.spec put-requires put-decimal-requires same-length returns)
