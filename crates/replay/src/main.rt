@@ -6,6 +6,7 @@
 mod output;
 
 ghost use mathlib.Core.Path.{_≡_};
+ghost use mathlib.Core.Bool.{false, cond};
 ghost use mathlib.Core.List.{_++_};
 ghost use Prim.Native.Nat.{_+_, _≤_};
 ghost use lib.ListN.{length, take};
@@ -64,9 +65,10 @@ fn play(mut player: Player, line: &[u8], text: &mut [u8]) -> Player
     player
 }
 
-// The line, where it is over. Behind it there is room for another.
+// The line, where it is over, is played whole. Behind it there is room for another.
 fn line_ended(player: Player, over: bool, line: &[u8], text: &mut [u8]) -> Player
     requires { ⌜ (player .length ≤ length (now line)) × (player .output .at + longestLine ≤ length (now text)) ⌝ }
+    ensures { λ r. ⌜ r .session ≡ cond over (sessionAfter (player .session) (take (player .length) (now (line .entry)))) (player .session) ⌝ }
     ensures { λ r. ⌜ (r .length ≤ length (now (line .entry))) × (r .output .at + longestLine ≤ length (now (text .exit))) ⌝ }
 {
     if !over {
@@ -114,7 +116,7 @@ fn play_block(mut player: Player, block: &[u8], line: &mut [u8], text: &mut [u8]
 
 // Nothing more is read, and a line that is not over is not played: it may have been cut.
 fn stopped(mut player: Player) -> Player
-    ensures { λ r. ⌜ (r .length ≡ 0) × (r .output .at ≡ player .output .at) ⌝ }
+    ensures { λ r. ⌜ (r .more ≡ false) × (r .length ≡ 0) × (r .output .at ≡ player .output .at) ⌝ }
 {
     player.length = 0;
     player.more = false;

@@ -1,15 +1,16 @@
 -- `replay::line_ended` meets its contract.
 -- Assumes nothing.
 use native.Mathlib.Omega.{arith}
-use mathlib.Core.Path.{sym}
+use mathlib.Core.Path.{refl, sym}
 use lib.Seq.{length-take-le}
+use borrow.Author.Tests.{not-true, not-false}
 use Rattle.replay.specs.OutputLaws.{room-waits}
 use borrow.Author.Needs.{needs}
 use Rattle.replay.proofs.line_ended.Statement.{statement}
 use Rattle.replay.proofs.line_ended.Tie as tie
 
 returns : tie.Need-returns
-returns c = search needs
+returns c = (rw (not-true (c .before .before .before .args .over) (c .if1 .taken)) refl, (c .before .before .before .pre .0, c .before .before .before .pre .1))
 
 slice-aggregate-play : tie.Need-slice-aggregate-play
 slice-aggregate-play c = sym (length-take-le _ _ (c .before .before .before .before .pre .0))
@@ -27,7 +28,7 @@ returns-2 : tie.Need-returns-2
 returns-2 c =
     let put = c .before .before .before .before .before .play .ensures in
     let room = room-waits _ _ (put .1 .1 .0) (omega arith) in
-    (omega (arith, put .1 .1 .1), omega (arith, c .with-room .ensures, room))
+    (rw (not-false (c .before .before .before .before .before .before .before .before .before .before .before .args .over) (c .before .before .before .before .before .before .before .before .if1 .left)) (put .0), (omega (arith, put .1 .1 .1), omega (arith, c .with-room .ensures, room)))
 
 pub line-ended-spec : {M : Type 1} → statement M
 line-ended-spec =
