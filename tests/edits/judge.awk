@@ -155,14 +155,15 @@ kind == "edit" && /^new:/ {
 # A function is refused for itself where its line says `not proved` and blames no function that it calls, or says that there is no proof
 # and `search` finds none, or where a lemma of its own proof is refused. Two kinds of error there show nothing: one that only says that
 # something else was refused before, as in the proof of each caller; and one that says that the proof no longer fits the code, since
-# needs or steps were added or are gone: a right version of another shape would be refused as well.
+# needs or steps were added or are gone, or since the check does not cover code of this form: a right version of another shape would be
+# refused as well.
 
 # What the error at `at` says, its further lines included
 function hear_error(    n, i) {
     n = at == "" ? 0 : proved_in(at)
     for (i = 1; i <= n; i++)
         if (said ~ /was not admitted .*so this cannot be checked/) continue
-        else if (said ~ /has no `Need-/ || said ~ /has no field `/ || said ~ /^`[^`]*-spec`: /) misfit[proved[i]] = 1
+        else if (said ~ /has no `(Need-|Tie`)/ || said ~ /has no field `/ || said ~ /^`[^`]*-spec`: /) misfit[proved[i]] = 1
         else own[proved[i]] = 1
     at = ""
 }
