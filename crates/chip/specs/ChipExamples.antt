@@ -11,7 +11,7 @@ use Rattle.map.specs.declared.refusals.Refusal.the-variants.{Member, ListSizes,
 use Rattle.map.specs.Refusals.{answerNumber, openAnswer, opens}
 use Rattle.map.specs.Map.{kindOf, linesOf, columnsOf, hasColumn, dotIn, numberIn, firstMasks, firstMask, pwmReserved, reservedAs, reservedOf, firstReset, switchBytesOf, switchReset, currentReset, resetAs, resetOf}
 use Rattle.map.specs.Lists.{tableFrom, table, filled}
-use Rattle.map.specs.Images.{registersOk, resetImage}
+use Rattle.map.specs.Images.{resetImage}
 use Rattle.burst.specs.Burst.{byteAt, size16, nOf, tOf, lengthsFrom, lengths, cutFrom, transactions, lengthsGood, sizesGood, headAddress, headWrites, headSelect}
 use Rattle.chip.specs.declared.Chip.{Chip}
 use Rattle.chip.specs.declared.decode.Transaction.the-variants.{Write, PassesBy}

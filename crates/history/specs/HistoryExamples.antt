@@ -45,7 +45,7 @@ lent-stays w lent x y z = (refl, refl, refl, refl, refl, refl)
 wanted-on : (wantsOn (0xFF ∷ 0x00 ∷ []) ≡ true) × (wantsOn (0xFE ∷ 0xFF ∷ []) ≡ false)
 wanted-on = (refl, refl)
 
--- "It has the member that the accepted Open was given, and 908 bytes, which begin at that member's reset values."
+-- "The ledger has the member that the accepted Open was given, and 908 bytes, which begin at that member's reset values."
 new-ledger : openedLedger 4 ≡ record { member = 4; bytes = resetImage 4 }
 unfolding openedLedger
 new-ledger = refl

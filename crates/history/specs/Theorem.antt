@@ -2,7 +2,7 @@
 -- Assumes nothing.
 use mathlib.Core.Path.{_≡_, refl, sym, ap, ap₂, _∙_, subst}
 use mathlib.Core.Bool.{Bool, true, false, cond, false≢true}
-use mathlib.Core.List.{List, [], _∷_, _++_, map}
+use mathlib.Core.List.{List, [], map}
 use Prim.Native.Nat.{ℕ, _≤_}
 use native.Mathlib.Omega.{arith}
 use lib.Dec.{leb}
@@ -33,9 +33,9 @@ use Rattle.chip.specs.Chip.{chipOf, feedOf}
 use Rattle.chip.specs.FeedLaws.{hearAll, Taken, feed-taken, feed-writes}
 use Rattle.history.specs.declared.World.{World}
 use Rattle.history.specs.declared.Request.the-variants.{Update}
-use Rattle.history.specs.Ledger.{entry, wantsOn}
-use Rattle.history.specs.Step.{listIn, fedBy, stepOf}
-use Rattle.history.specs.History.{Call, start, run, worldAfter, entries, ledger, SameWritable, AllWriteWritable, Rival, Updates, updateList, LastUpdate, WholeLists}
+use Rattle.history.specs.Ledger.{wantsOn}
+use Rattle.history.specs.Step.{listIn, fedBy}
+use Rattle.history.specs.History.{Call, start, worldAfter, ledger, SameWritable, AllWriteWritable, Rival, Updates, updateList, LastUpdate, WholeLists}
 use Rattle.history.specs.WorldLaws.{run-last, entries-last, machine, hear-all-is, Holds, history-holds, front, update-fed, ready}
 use Rattle.history.specs.RivalLaws.{all-writes, all-good, all-own}
 

@@ -8,7 +8,7 @@ use Prim.Native.Nat.{ℕ}
 use lib.ListN.{getD, set, replicate}
 use Rattle.map.specs.declared.dots.Field.the-variants.{Group, Switch}
 use Rattle.map.specs.Refusals.{answerNumber, openAnswer}
-use Rattle.map.specs.Map.{linesOf, columnsOf, hasColumn, dotIn, isDot, numberIn, kindOf, addressOf, shiftOf, widthOf, dataMode, isWide, firstMasks, firstMask, noSink, switchMask, switchReserved, pwmReserved, reservedAs, reservedOf, writableOf, firstReset, resetAs, resetOf}
+use Rattle.map.specs.Map.{linesOf, columnsOf, hasColumn, dotIn, isDot, numberIn, kindOf, addressOf, shiftOf, widthOf, dataMode, isWide, firstMasks, firstMask, pwmReserved, reservedAs, reservedOf, writableOf, firstReset, resetAs, resetOf}
 use Rattle.map.specs.Lists.{allFrom}
 use Rattle.map.specs.Images.{okByte, resetImage}
 use Rattle.host.specs.declared.Record.{Record}

@@ -18,9 +18,6 @@ masks-length m = go (eqb m 1)
     go true = refl
     go false = refl
 
-pub masks-wide : (l : List ℕ) (m : ℕ) → l ≡ firstMasks m → length l ≡ 12
-masks-wide l m e = ap length e ∙ masks-length m
-
 either : (b : Bool) (x y : ℕ) → x ≡ y → cond b x y ≡ y
 either true x y e = e
 either false x y e = refl

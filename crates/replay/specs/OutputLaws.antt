@@ -21,7 +21,7 @@ pub waits-no-more : (size at : ℕ) → size - at < longestLine → 0 ≡ waitin
 unfolding waiting
 waits-no-more size at h = rw (lt-leb longestLine (size - at) h) refl
 
--- "no answer can be lost": the room that a line finds
+-- no answer is lost: the room that a line finds
 pub room-waits : (size at : ℕ) → at ≤ size → longestLine ≤ size → waiting size at + longestLine ≤ size
 unfolding waiting
 room-waits size at h k = go (leb longestLine (size - at)) refl

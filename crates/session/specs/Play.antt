@@ -8,7 +8,7 @@ use Rattle.session.specs.declared.run.Session.{Session}
 use Rattle.session.specs.Run.{runOf, shownOf}
 use Rattle.session.specs.Replies.{replyLine}
 
--- "A buffer of L bytes (L at most 4,096 ..) is lent filled with A5h": it is the first L bytes of this
+-- "A buffer of L bytes (L at most 4,096, else `?`) is lent filled with A5h": it is the first L bytes of this
 unfoldable pub freshBuffer : List ℕ
 freshBuffer = replicate 4096 0xA5
 

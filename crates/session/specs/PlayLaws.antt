@@ -6,7 +6,7 @@ use mathlib.Core.Bool.{Bool, true, false, cond}
 use mathlib.Core.List.{List, [], _∷_, _++_}
 use Prim.Native.Nat.{ℕ, zero, suc, _+_, _^_, _≤_, _<_}
 use native.Mathlib.Omega.{arith}
-use lib.Dec.{leb, eqb}
+use lib.Dec.{leb}
 use lib.ListN.{length, getD, take, length-append}
 use Rattle.map.specs.declared.refusals.Answer as answers
 use Rattle.map.specs.declared.refusals.Refusal.{Refusal}
@@ -177,7 +177,7 @@ reply-most s (commands.the-variants.Poke p a v) l b x h = omega (arith, setting-
 reply-most s (commands.the-variants.Header e v) l b x h = omega (arith, setting-most answers.the-variants.Accepted)
 reply-most s commands.the-variants.Check l b x h = check-most s x
 
--- "(L at most 4,096 ..)": of a line that shows no more than that, and every line does
+-- of a line that shows no more than the longest buffer; `play` promises it of every line
 pub printed-most : (s : Session) (l : List ℕ) → length (shownOf s l freshBuffer) ≤ 4096 → length (printed s l) ≤ longestLine
 unfolding printed runOf replyLine
 printed-most s l h =

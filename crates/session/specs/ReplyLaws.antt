@@ -1,6 +1,6 @@
 -- Laws of Replies.antt: an answer's numbers piece by piece.
 -- Assumes nothing.
-use mathlib.Core.Path.{_≡_, ap, _∙_}
+use mathlib.Core.Path.{_≡_, ap}
 use mathlib.Core.List.{List, [], _∷_, _++_, append-nil}
 use Prim.Native.Nat.{ℕ}
 use Rattle.text.specs.Text.{decimalText, eachText}

@@ -2,10 +2,10 @@
 -- script plays on with their ledger; l the line, b the buffer, of which the first n bytes are lent.
 -- Assumes nothing.
 use mathlib.Core.Bool.{Bool, true, false, cond, not, _&&_}
-use mathlib.Core.List.{List, [], _++_}
+use mathlib.Core.List.{List, []}
 use Prim.Native.Nat.{ℕ, zero, suc}
 use lib.Dec.{eqb}
-use lib.ListN.{length, getD, take, drop, set}
+use lib.ListN.{length, getD, take, set}
 use Rattle.map.specs.Map.{writableOf}
 use Rattle.map.specs.Refusals.{openAnswer}
 use Rattle.map.specs.declared.refusals.Answer as answers

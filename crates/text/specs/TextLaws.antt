@@ -10,7 +10,7 @@ use native.Mathlib.Omega.{arith}
 use borrow.Author.Tests.{lt-ltb, le-ltb, ltb-true, ltb-false}
 use lib.Dec.{ltb, eqb}
 use lib.ListN.{length, set, take, length-append, length-set}
-use lib.Seq.{take-suc-set, set-out}
+use lib.Seq.{take-suc-set}
 use Rattle.text.specs.Text.{nextPlace, placed, placeAfter, Puts, digit, byteText, addressText, decimalUpTo, decimalText, eachText, spacedText, spacedBytesText, bytesText}
 
 -- ---- places

@@ -12,7 +12,7 @@ use lib.ListN.{length, getD, take, drop, length-append, length-map}
 use lib.Seq.{sets, length-sets, take-suc, take-length, length-take-le}
 use Rattle.map.specs.declared.refusals.Refusal.the-variants.{Unsound}
 use Rattle.map.specs.Map.{writableOf}
-use Rattle.burst.specs.Burst.{Burst, sizeBytes, sizesBytes, transactionOf, joined, sum, busBytes, encode, listOf}
+use Rattle.burst.specs.Burst.{Burst, sizeBytes, sizesBytes, transactionOf, sum, busBytes, encode, listOf}
 use Rattle.burst.specs.BurstLaws.{encode-length}
 use Rattle.plan.specs.Lists.{All, all-append}
 use Rattle.plan.specs.Plan.{Write, cost, plan}

@@ -1,6 +1,5 @@
 -- `session::print::digit` meets its contract.
 -- Assumes nothing.
-use borrow.Author.Needs.{needs}
 use mathlib.Core.Path.{refl}
 use Rattle.session.proofs.print.digit.Statement.{statement}
 use Rattle.session.proofs.print.digit.Tie as tie

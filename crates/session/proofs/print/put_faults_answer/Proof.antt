@@ -36,7 +36,13 @@ same-length c = search needs
 
 returns : tie.Need-returns
 unfolding answerNumbers
-returns c = values-put _ _ _ _ _ _ _ _ _ _ (rw (c .before .before .before .before .before .before .before .before .before .before .before .before .answer-number .ensures, c .before .before .before .before .before .before .before .answer .given .1, c .before .before .before .before .digit .ensures, c .before .before .before .digit2 .ensures) refl) (c .before .before .before .before .before .before .before .before .before .before .before .put-decimal .ensures) (c .before .before .put-values .ensures)
+returns c =
+    let digits = c .before .before .before in
+    let read = digits .before .before .before .before in
+    let number = read .before .before .before .before in
+    values-put _ _ _ _ _ _ _ _ _ _
+    (rw (number .before .answer-number .ensures, read .answer .given .1, digits .before .digit .ensures, digits .digit2 .ensures) refl)
+    (number .put-decimal .ensures) (c .before .before .put-values .ensures)
 
 same-length-2 : tie.Need-same-length-2
 same-length-2 c = search needs

@@ -34,13 +34,21 @@ same-length : tie.Need-same-length
 same-length c = search needs
 
 returns : tie.Need-returns
-returns c = values-put _ _ _ _ _ _ _ _ _ _ (rw (c .before .before .before .before .before .before .before .before .before .before .list-number .ensures, c .before .before .before .before .before .answer .given .1) refl) (c .before .before .before .before .before .before .before .before .before .put-decimal .ensures) (c .before .before .put-values .ensures)
+returns c =
+    let listed = c .before .before .before .before .before in
+    let number = listed .before .before .before .before in
+    values-put _ _ _ _ _ _ _ _ _ _ (rw (number .before .list-number .ensures, listed .answer .given .1) refl)
+    (number .put-decimal .ensures) (c .before .before .put-values .ensures)
 
 same-length-2 : tie.Need-same-length-2
 same-length-2 c = search needs
 
 returns-2 : tie.Need-returns-2
-returns-2 c = value-put _ _ _ _ _ _ _ _ _ (rw (c .before .before .before .before .before .before .before .before .before .before .list-number .ensures, c .before .before .before .before .before .answer2 .given .1) refl) (c .before .before .before .before .before .before .before .before .before .put-decimal .ensures) (c .before .before .put-value .ensures)
+returns-2 c =
+    let short = c .before .before .before .before .before in
+    let number = short .before .before .before .before in
+    value-put _ _ _ _ _ _ _ _ _ (rw (number .before .list-number .ensures, short .answer2 .given .1) refl)
+    (number .put-decimal .ensures) (c .before .before .put-value .ensures)
 
 same-length-3 : tie.Need-same-length-3
 same-length-3 c = search needs

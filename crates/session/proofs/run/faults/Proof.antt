@@ -37,8 +37,12 @@ same-length c = search needs
 
 returns : tie.Need-returns
 returns c =
-    let start = c .before .before .before .before .before .before .before .before .before .before .before in
-    faults-shown _ _ _ _ _ _ _ _ _ _ (start .pre .0) (sym (c .before .before .before .before .before .before .before .before .buffer .ensures)) (c .before .before .before .before .before .before .decode .ensures .0) (start .pre .1) (start .pre .2) (c .before .before .faults .kept .1 .1 .0) (c .before .before .faults .ensures .0) (c .before .before .faults .ensures .1)
+    let called = c .before .before .faults in
+    let decoded = c .before .before .before .before .before .before in
+    let lent = decoded .before .before in
+    let start = lent .before .before .before in
+    faults-shown _ _ _ _ _ _ _ _ _ _ (start .pre .0) (sym (lent .buffer .ensures)) (decoded .decode .ensures .0) (start .pre .1) (start .pre .2)
+    (called .kept .1 .1 .0) (called .ensures .0) (called .ensures .1)
 
 pub faults-spec : {M : Type 1} → statement M
 faults-spec =

@@ -21,7 +21,12 @@ same-length : tie.Need-same-length
 same-length c = search needs
 
 returns : tie.Need-returns
-returns c = (list-is _ _ _ _ _ (c .before .before .before .list-called .ensures .0), list-shown _ _ _ _ (c .before .before .before .before .before .before .pre .0) (c .before .before .before .before .before .before .pre .1) (c .before .before .before .list-called .kept .1 .1 .0) (c .before .before .before .list-called .ensures .1))
+returns c =
+    let called = c .before .before .before .list-called in
+    let start = c .before .before .before .before .before .before in (
+      list-is _ _ _ _ _ (called .ensures .0),
+      list-shown _ _ _ _ (start .pre .0) (start .pre .1) (called .kept .1 .1 .0) (called .ensures .1),
+    )
 
 pub list-spec : {M : Type 1} → statement M
 list-spec =

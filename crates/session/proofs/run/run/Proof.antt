@@ -1,11 +1,9 @@
 -- `session::run::run` meets its contract.
 -- Assumes nothing.
-use mathlib.Core.List.{List}
 use Prim.Native.Nat.{ℕ, _≤_}
-use Rattle.faults.specs.Faults.{faultsAnswer, faultsResult}
 use Rattle.session.specs.declared.run.Ran.{Ran}
-use mathlib.Core.Path.{refl, ap, sym, subst, _∙_}
-use Rattle.session.specs.Run.{plainly, numbered, callOf, plainCall, listRan, feedRan, behindBack, ranBy, shownBy}
+use mathlib.Core.Path.{refl, ap, subst, _∙_}
+use Rattle.session.specs.Run.{plainly, numbered, plainCall, listRan, feedRan, behindBack, ranBy, shownBy}
 use Rattle.session.proofs.Playing.{open-room, ran-none, ran-shown, word-room}
 use Rattle.script.specs.CommandLaws.{isCall, list-room, faults-room, poke-address}
 use borrow.Author.Needs.{needs}
