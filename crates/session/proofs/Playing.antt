@@ -33,8 +33,8 @@ use Rattle.history.specs.Step.{stepOf}
 use Rattle.history.specs.Ledger.{openedLedger, enteredOf}
 use Rattle.script.specs.declared.command.Command.{Command}
 use Rattle.script.specs.declared.command.ListCall.{ListCall}
-use Rattle.session.specs.declared.run.Reply.{Reply}
-use Rattle.session.specs.declared.run.Reply.the-variants.{Bad as BadReply, Lent, Read, Bytes, Same, Differs}
+use Rattle.replies.specs.declared.Reply.{Reply}
+use Rattle.replies.specs.declared.Reply.the-variants.{Bad as BadReply, Lent, Read, Bytes, Same, Differs}
 use Rattle.session.specs.declared.run.Session.{Session}
 use Rattle.session.specs.declared.run.Called.{Called}
 use Rattle.session.specs.declared.run.Ran.{Ran}
@@ -42,7 +42,7 @@ use Rattle.script.specs.Words.{lengthTo, firstWord, behind, wordAt}
 use Rattle.script.specs.Bytes.{bytesOf}
 use Rattle.session.specs.Run.{plainly, numbered, openedSession, openBy, withWorld, callOf, plainCall, listCall, listRan, fedSession, feedRan, behindBack, differsAt, compareFrom, compared, ranBy, shownBy, runOf, shownOf}
 use Rattle.script.specs.Commands.{commandOf}
-use Rattle.session.specs.Replies.{replyLine}
+use Rattle.replies.specs.Replies.{replyLine}
 use Rattle.session.specs.Play.{freshBuffer, sessionAfter, printed, longestLine}
 use Rattle.session.specs.PlayLaws.{printed-most}
 use Rattle.script.specs.CommandLaws.{isCall, call-length}

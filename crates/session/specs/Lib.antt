@@ -1,6 +1,4 @@
-pub mod Replies
-pub mod ReplyLaws
 pub mod Run
 pub mod Play
 pub mod PlayLaws
-pub mod SessionExamples
+pub mod CheckLaws

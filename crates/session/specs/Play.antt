@@ -6,7 +6,7 @@ use Prim.Native.Nat.{ℕ}
 use lib.ListN.{replicate}
 use Rattle.session.specs.declared.run.Session.{Session}
 use Rattle.session.specs.Run.{runOf, shownOf}
-use Rattle.session.specs.Replies.{replyLine}
+use Rattle.replies.specs.Replies.{replyLine}
 
 -- "A buffer of L bytes (L at most 4,096, else `?`) is lent filled with A5h": it is the first L bytes of this
 unfoldable pub freshBuffer : List ℕ

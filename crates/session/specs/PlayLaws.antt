@@ -29,11 +29,11 @@ use Rattle.script.specs.declared.command.Command as commands
 use Rattle.script.specs.Words.{wordAt}
 use Rattle.script.specs.Bytes.{bytesOf}
 use Rattle.script.specs.Commands.{commandOf}
-use Rattle.session.specs.declared.run.Reply.{Reply}
-use Rattle.session.specs.declared.run.Reply.the-variants.{Bad, Differs}
+use Rattle.replies.specs.declared.Reply.{Reply}
+use Rattle.replies.specs.declared.Reply.the-variants.{Bad, Differs}
 use Rattle.session.specs.declared.run.Session.{Session}
-use Rattle.session.specs.Replies.{valueText, numbersText, lentText, differsWord, replyText, replyLine}
-use Rattle.session.specs.ReplyLaws.{number-alone, number-value, number-values}
+use Rattle.replies.specs.Replies.{valueText, numbersText, lentText, differsWord, replyText, replyLine}
+use Rattle.replies.specs.ReplyLaws.{number-alone, number-value, number-values}
 use Rattle.session.specs.Run.{plainly, numbered, openBy, withWorld, callOf, plainCall, listCall, listRan, feedRan, behindBack, differsAt, compareFrom, compared, ranBy, runOf, shownOf}
 use Rattle.session.specs.Play.{freshBuffer, longestLine, printed}
 

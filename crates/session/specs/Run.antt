@@ -29,8 +29,8 @@ use Rattle.script.specs.declared.keywords.Part as parts
 use Rattle.script.specs.declared.keywords.Entry as entries
 use Rattle.script.specs.declared.command.ListCall as lists
 use Rattle.script.specs.declared.command.Command as commands
-use Rattle.session.specs.declared.run.Reply.{Reply}
-use Rattle.session.specs.declared.run.Reply.the-variants.{Bad, Answered, Lent, Read, Bytes, Same, Differs}
+use Rattle.replies.specs.declared.Reply.{Reply}
+use Rattle.replies.specs.declared.Reply.the-variants.{Bad, Answered, Lent, Read, Bytes, Same, Differs}
 use Rattle.session.specs.declared.run.Session.{Session}
 use Rattle.session.specs.declared.run.Called.{Called}
 use Rattle.session.specs.declared.run.Ran.{Ran}

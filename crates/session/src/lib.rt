@@ -3,7 +3,6 @@
 //
 // `start` is the session before the first line. `play` runs a line, on a buffer of its own where the call asks for one, and puts the
 // line of its reply at a place of a text.
-mod print;
 mod run;
 
 ghost use mathlib.Core.Path.{_≡_};
@@ -36,6 +35,6 @@ pub fn play(session: Session, line: &[u8], text: &mut [u8], at: usize) -> Played
     let room = ran.room;
     Played {
         session: session,
-        at: print::put_line(text, at, reply, &buffer[..room]),
+        at: replies::put_line(text, at, reply, &buffer[..room]),
     }
 }

@@ -17,6 +17,7 @@ use history::Stepped;
 use history::World;
 use host::Record;
 use map::Answer;
+use replies::Reply;
 use script::Command;
 use script::Entry;
 use script::ListCall;
@@ -31,24 +32,6 @@ pub struct Session {
     pub(crate) world: World,
     pub(crate) ledger: Ledger,
     pub(crate) valid: bool,
-}
-
-// What the line of output says. BUFFER is all bytes of the buffer that was lent.
-pub(crate) enum Reply {
-    // `?`
-    Bad,
-    // the numbers of the answer: `0`, or the refusal's number
-    Answered(CallAnswer),
-    // they and the buffer: `0 n t BUFFER`, `10 NEEDED BUFFER`, `N BUFFER`
-    Lent(CallAnswer),
-    // `0 O S BUFFER`, `N BUFFER`
-    Read(faults::Answer),
-    // the bytes alone
-    Bytes,
-    // `same`
-    Same,
-    // `differs A`
-    Differs(usize),
 }
 
 // The reply, how many bytes of the buffer it shows, and the script's record and chip after the call.

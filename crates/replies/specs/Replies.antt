@@ -5,8 +5,8 @@ use Prim.Native.Nat.{ℕ}
 use Rattle.faults.specs.Faults.{answerNumbers}
 use Rattle.history.specs.Step.{callNumbers}
 use Rattle.text.specs.Text.{addressText, decimalText, eachText, bytesText}
-use Rattle.session.specs.declared.run.Reply.{Reply}
-use Rattle.session.specs.declared.run.Reply.the-variants.{Bad, Answered, Lent, Read, Bytes, Same, Differs}
+use Rattle.replies.specs.declared.Reply.{Reply}
+use Rattle.replies.specs.declared.Reply.the-variants.{Bad, Answered, Lent, Read, Bytes, Same, Differs}
 
 -- a value of an answer stands behind a space
 unfoldable pub valueText : ℕ → List ℕ

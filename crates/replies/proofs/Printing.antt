@@ -5,8 +5,8 @@ use mathlib.Core.List.{List, [], _∷_, _++_}
 use Prim.Native.Nat.{ℕ}
 use Rattle.text.specs.Text.{Puts, decimalText}
 use Rattle.text.specs.TextLaws.{puts-then, puts-as}
-use Rattle.session.specs.Replies.{valueText, numbersText}
-use Rattle.session.specs.ReplyLaws.{number-alone, number-value, number-values}
+use Rattle.replies.specs.Replies.{valueText, numbersText}
+use Rattle.replies.specs.ReplyLaws.{number-alone, number-value, number-values}
 
 pub alone-put : (old : List ℕ) (at : ℕ) (new : List ℕ) (r n : ℕ) (ns : List ℕ) → ns ≡ n ∷ [] → Puts old at (decimalText n) new r → Puts old at (numbersText ns) new r
 alone-put old at new r n ns e p = puts-as old at _ _ new r (sym (ap numbersText e ∙ number-alone n)) p

@@ -1,9 +1,9 @@
--- `session::print::put_differs` meets its contract.
+-- `replies::put_differs` meets its contract.
 -- Assumes nothing.
 use Rattle.text.specs.TextLaws.{puts-then}
 use borrow.Author.Needs.{needs}
-use Rattle.session.proofs.print.put_differs.Statement.{statement}
-use Rattle.session.proofs.print.put_differs.Tie as tie
+use Rattle.replies.proofs.put_differs.Statement.{statement}
+use Rattle.replies.proofs.put_differs.Tie as tie
 
 slice-aggregate-put-text : tie.Need-slice-aggregate-put-text
 slice-aggregate-put-text c = search needs

@@ -1,12 +1,12 @@
--- `session::print::put_reply` meets its contract.
+-- `replies::put_reply` meets its contract.
 -- Assumes nothing.
-use Rattle.session.specs.Replies.{replyText}
+use Rattle.replies.specs.Replies.{replyText}
 use Rattle.text.specs.TextLaws.{puts-then}
-use Rattle.session.specs.Replies.{replyText}
+use Rattle.replies.specs.Replies.{replyText}
 use Rattle.text.specs.TextLaws.{puts-then}
 use borrow.Author.Needs.{needs}
-use Rattle.session.proofs.print.put_reply.Statement.{statement}
-use Rattle.session.proofs.print.put_reply.Tie as tie
+use Rattle.replies.proofs.put_reply.Statement.{statement}
+use Rattle.replies.proofs.put_reply.Tie as tie
 
 enum-told : tie.Need-enum-told
 enum-told c = search needs

@@ -1,8 +1,8 @@
--- `session::print::digit` meets its contract.
+-- `replies::digit` meets its contract.
 -- Assumes nothing.
 use mathlib.Core.Path.{refl}
-use Rattle.session.proofs.print.digit.Statement.{statement}
-use Rattle.session.proofs.print.digit.Tie as tie
+use Rattle.replies.proofs.digit.Statement.{statement}
+use Rattle.replies.proofs.digit.Tie as tie
 
 returns : tie.Need-returns
 returns c = rw (c .if1 .taken) refl

@@ -1,13 +1,13 @@
-// Replies as lines of text.
+// Replies to the lines of a script, and their text. docs/REPLAY.md has them in its table's last column: the numbers of an answer, then a
+// buffer; bytes alone; or a word.
 ghost use mathlib.Core.Path.{_≡_};
 ghost use mathlib.Core.Bool.{cond};
 ghost use mathlib.Core.List.{_++_};
 ghost use Rattle.update.specs.Update.{listNumbers};
 ghost use Rattle.faults.specs.Faults.{answerNumbers};
 ghost use Rattle.history.specs.Step.{callNumbers};
-ghost use Rattle.session.specs.Replies.{valueText, numbersText, lentText, differsWord, replyText, replyLine};
+ghost use Rattle.replies.specs.Replies.{valueText, numbersText, lentText, differsWord, replyText, replyLine};
 ghost use Rattle.text.specs.Text.{Puts, addressText};
-use crate::run::Reply;
 use history::CallAnswer;
 use text::put;
 use text::put_address;
@@ -15,6 +15,24 @@ use text::put_bytes;
 use text::put_decimal;
 use text::put_text;
 use update::ListAnswer;
+
+// What the line of output says. BUFFER is all bytes of the buffer that was lent.
+pub enum Reply {
+    // `?`
+    Bad,
+    // the numbers of the answer: `0`, or the refusal's number
+    Answered(CallAnswer),
+    // they and the buffer: `0 n t BUFFER`, `10 NEEDED BUFFER`, `N BUFFER`
+    Lent(CallAnswer),
+    // `0 O S BUFFER`, `N BUFFER`
+    Read(faults::Answer),
+    // the bytes alone
+    Bytes,
+    // `same`
+    Same,
+    // `differs A`
+    Differs(usize),
+}
 
 // ` V`
 fn put_value(text: &mut [u8], at: usize, value: usize) -> usize
@@ -111,7 +129,7 @@ fn put_reply(text: &mut [u8], at: usize, reply: Reply, bytes: &[u8]) -> usize
 }
 
 // The line of a reply, with the bytes of the buffer that was lent.
-pub(crate) fn put_line(text: &mut [u8], at: usize, reply: Reply, bytes: &[u8]) -> usize
+pub fn put_line(text: &mut [u8], at: usize, reply: Reply, bytes: &[u8]) -> usize
     ensures { λ r. ⌜ Puts (now (text .entry)) at (replyLine reply (now (bytes .entry))) (now (text .exit)) r ⌝ }
 {
     let next = put_reply(text, at, reply, bytes);

@@ -1,11 +1,11 @@
--- `session::print::put_faults_answer` meets its contract.
+-- `replies::put_faults_answer` meets its contract.
 -- Assumes nothing.
 use mathlib.Core.Path.{refl}
 use Rattle.faults.specs.Faults.{answerNumbers}
-use Rattle.session.proofs.Printing.{alone-put, values-put}
+use Rattle.replies.proofs.Printing.{alone-put, values-put}
 use borrow.Author.Needs.{needs}
-use Rattle.session.proofs.print.put_faults_answer.Statement.{statement}
-use Rattle.session.proofs.print.put_faults_answer.Tie as tie
+use Rattle.replies.proofs.put_faults_answer.Statement.{statement}
+use Rattle.replies.proofs.put_faults_answer.Tie as tie
 
 answer-number-requires : tie.Need-answer-number-requires
 answer-number-requires c κs = search needs

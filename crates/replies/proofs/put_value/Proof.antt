@@ -1,10 +1,10 @@
--- `session::print::put_value` meets its contract.
+-- `replies::put_value` meets its contract.
 -- Assumes nothing.
 use Rattle.text.specs.TextLaws.{puts-then}
-use Rattle.session.specs.Replies.{valueText}
+use Rattle.replies.specs.Replies.{valueText}
 use borrow.Author.Needs.{needs}
-use Rattle.session.proofs.print.put_value.Statement.{statement}
-use Rattle.session.proofs.print.put_value.Tie as tie
+use Rattle.replies.proofs.put_value.Statement.{statement}
+use Rattle.replies.proofs.put_value.Tie as tie
 
 put-requires : tie.Need-put-requires
 put-requires c κs = search needs

@@ -4,7 +4,7 @@ use mathlib.Core.Path.{_≡_, ap}
 use mathlib.Core.List.{List, [], _∷_, _++_, append-nil}
 use Prim.Native.Nat.{ℕ}
 use Rattle.text.specs.Text.{decimalText, eachText}
-use Rattle.session.specs.Replies.{valueText, numbersText}
+use Rattle.replies.specs.Replies.{valueText, numbersText}
 
 pub number-alone : (n : ℕ) → numbersText (n ∷ []) ≡ decimalText n
 unfolding numbersText eachText

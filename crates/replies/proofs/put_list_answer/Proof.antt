@@ -1,10 +1,10 @@
--- `session::print::put_list_answer` meets its contract.
+-- `replies::put_list_answer` meets its contract.
 -- Assumes nothing.
 use mathlib.Core.Path.{refl}
-use Rattle.session.proofs.Printing.{alone-put, value-put, values-put}
+use Rattle.replies.proofs.Printing.{alone-put, value-put, values-put}
 use borrow.Author.Needs.{needs}
-use Rattle.session.proofs.print.put_list_answer.Statement.{statement}
-use Rattle.session.proofs.print.put_list_answer.Tie as tie
+use Rattle.replies.proofs.put_list_answer.Statement.{statement}
+use Rattle.replies.proofs.put_list_answer.Tie as tie
 
 list-number-requires : tie.Need-list-number-requires
 list-number-requires c κs = search needs

@@ -1,10 +1,10 @@
--- `session::print::put_line` meets its contract.
+-- `replies::put_line` meets its contract.
 -- Assumes nothing.
-use Rattle.session.specs.Replies.{replyLine}
+use Rattle.replies.specs.Replies.{replyLine}
 use Rattle.text.specs.TextLaws.{puts-then}
 use borrow.Author.Needs.{needs}
-use Rattle.session.proofs.print.put_line.Statement.{statement}
-use Rattle.session.proofs.print.put_line.Tie as tie
+use Rattle.replies.proofs.put_line.Statement.{statement}
+use Rattle.replies.proofs.put_line.Tie as tie
 
 put-reply-requires : tie.Need-put-reply-requires
 put-reply-requires c κs = search needs

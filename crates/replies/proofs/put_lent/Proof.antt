@@ -1,10 +1,10 @@
--- `session::print::put_lent` meets its contract.
+-- `replies::put_lent` meets its contract.
 -- Assumes nothing.
 use Rattle.text.specs.TextLaws.{puts-then}
-use Rattle.session.specs.Replies.{lentText}
+use Rattle.replies.specs.Replies.{lentText}
 use borrow.Author.Needs.{needs}
-use Rattle.session.proofs.print.put_lent.Statement.{statement}
-use Rattle.session.proofs.print.put_lent.Tie as tie
+use Rattle.replies.proofs.put_lent.Statement.{statement}
+use Rattle.replies.proofs.put_lent.Tie as tie
 
 put-requires : tie.Need-put-requires
 put-requires c κs = search needs

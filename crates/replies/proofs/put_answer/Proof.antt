@@ -1,10 +1,10 @@
--- `session::print::put_answer` meets its contract.
+-- `replies::put_answer` meets its contract.
 -- Assumes nothing.
 use mathlib.Core.Path.{refl}
-use Rattle.session.proofs.Printing.{alone-put}
+use Rattle.replies.proofs.Printing.{alone-put}
 use borrow.Author.Needs.{needs}
-use Rattle.session.proofs.print.put_answer.Statement.{statement}
-use Rattle.session.proofs.print.put_answer.Tie as tie
+use Rattle.replies.proofs.put_answer.Statement.{statement}
+use Rattle.replies.proofs.put_answer.Tie as tie
 
 enum-known-answer : tie.Need-enum-known-answer
 enum-known-answer c = search needs

@@ -1,9 +1,9 @@
--- `session::print::put_values` meets its contract.
+-- `replies::put_values` meets its contract.
 -- Assumes nothing.
 use Rattle.text.specs.TextLaws.{puts-then}
 use borrow.Author.Needs.{needs}
-use Rattle.session.proofs.print.put_values.Statement.{statement}
-use Rattle.session.proofs.print.put_values.Tie as tie
+use Rattle.replies.proofs.put_values.Statement.{statement}
+use Rattle.replies.proofs.put_values.Tie as tie
 
 put-value-requires : tie.Need-put-value-requires
 put-value-requires c κs = search needs
