@@ -1,5 +1,5 @@
 -- What `check` says of the chip and the ledger: `same` where every writable register is the ledger's, 38Bh included, and otherwise the
--- lowest one that is not.
+-- lowest one that is not. It says one of the two wherever the ledger is not void (`check-says`), so that the laws fix its answer.
 -- Assumes nothing.
 use mathlib.Core.Path.{_≡_, refl, sym, ap, _∙_, subst}
 use mathlib.Core.Bool.{Bool, true, false, cond, not, _&&_, false≢true}
@@ -69,6 +69,21 @@ module _ (m : ℕ) (x y : List ℕ) where
       compareFrom m x y a (suc n) ≡ elim t [ true ↦ Differs a | false ↦ compareFrom m x y (suc a) n ]
   unfolding compareFrom
   step a n t e = rw (e, compareFrom) refl
+
+  -- the reply is `same`, or names an address
+  pub data Says (r : Reply) : Type 0 where
+    same : r ≡ Same → Says r
+    differs : (k : ℕ) → r ≡ Differs k → Says r
+
+  says-from : (n a : ℕ) → Says (compareFrom m x y a n)
+  unfolding compareFrom
+  says-from zero a = same refl
+  says-from (suc n) a = go (says-from n (suc a)) (differsAt m a (getD x a 0) (getD y a 0)) refl
+    where
+      go : Says (compareFrom m x y (suc a) n) → (t : Bool) → differsAt m a (getD x a 0) (getD y a 0) ≡ t → Says (compareFrom m x y a (suc n))
+      go rest true q = differs a (step a n true q)
+      go (same e) false q = same (step a n false q ∙ e)
+      go (differs k e) false q = differs k (step a n false q ∙ e)
 
   same-from : (n a : ℕ) → compareFrom m x y a n ≡ Same → (k : ℕ) → a ≤ k → k < a + n → SameAt k
   same-from zero a e k l h = absurd (omega arith)
@@ -146,6 +161,11 @@ module _ (s : Session) where
   check-differs k e =
       differs-from m x y 908 0 k
       (bad-said (s .valid) _ (Differs k) (λ q. let z : 2 + k ≡ 1 = ap named q in absurd (omega arith)) e)
+
+  -- "`same`, or `differs A`": one of the two, unless the ledger is void
+  pub check-says : s .valid ≡ true → Says m x y (compared s)
+  unfolding compared
+  check-says e = rw e (says-from m x y 908 0)
 
   -- "`check` then prints `?` until the next accepted `open`"
   pub check-void : s .valid ≡ false → compared s ≡ Bad
