@@ -65,3 +65,137 @@ kind-in-other kinds a h n0 n1 n2 n3 n4 n5 n6 n7 n8 =
       ne-eqb _ 7 n7,
       ne-eqb _ 8 n8,
     )
+
+-- ---- an address by its range
+
+module _ (a : ℕ) where
+  pub in-config : a < 0x00C → Config ≡ kindOf a
+  unfolding kindOf
+  in-config h = rw (lt-ltb a 0x00C h) refl
+
+  pub in-group : 0x00C ≤ a → a < 0x043 → Group ≡ kindOf a
+  unfolding kindOf
+  in-group l h = rw (le-ltb a 0x00C (omega arith), lt-ltb a 0x043 h) refl
+
+  pub in-switch : 0x043 ≤ a → a < 0x064 → Switch ≡ kindOf a
+  unfolding kindOf
+  in-switch l h = rw (le-ltb a 0x00C (omega arith), le-ltb a 0x043 (omega arith), lt-ltb a 0x064 h) refl
+
+  pub in-fault-state : 0x064 ≤ a → a < 0x065 → FaultState ≡ kindOf a
+  unfolding kindOf
+  in-fault-state l h = rw (le-ltb a 0x00C (omega arith), le-ltb a 0x043 (omega arith), le-ltb a 0x064 (omega arith), lt-ltb a 0x065 h) refl
+
+  pub in-open : 0x065 ≤ a → a < 0x086 → Open ≡ kindOf a
+  unfolding kindOf
+  in-open l h =
+      rw (
+        le-ltb a 0x00C (omega arith),
+        le-ltb a 0x043 (omega arith),
+        le-ltb a 0x064 (omega arith),
+        le-ltb a 0x065 (omega arith),
+        lt-ltb a 0x086 h,
+      ) refl
+
+  pub in-short : 0x086 ≤ a → a < 0x0A7 → Short ≡ kindOf a
+  unfolding kindOf
+  in-short l h =
+      rw (
+        le-ltb a 0x00C (omega arith),
+        le-ltb a 0x043 (omega arith),
+        le-ltb a 0x064 (omega arith),
+        le-ltb a 0x065 (omega arith),
+        le-ltb a 0x086 (omega arith),
+        lt-ltb a 0x0A7 h,
+      ) refl
+
+  pub in-command : 0x0A7 ≤ a → a < 0x0AA → Command ≡ kindOf a
+  unfolding kindOf
+  in-command l h =
+      rw (
+        le-ltb a 0x00C (omega arith),
+        le-ltb a 0x043 (omega arith),
+        le-ltb a 0x064 (omega arith),
+        le-ltb a 0x065 (omega arith),
+        le-ltb a 0x086 (omega arith),
+        le-ltb a 0x0A7 (omega arith),
+        lt-ltb a 0x0AA h,
+      ) refl
+
+  pub hole-below-currents : 0x0AA ≤ a → a < 0x100 → Hole ≡ kindOf a
+  unfolding kindOf
+  hole-below-currents l h =
+      rw (
+        le-ltb a 0x00C (omega arith),
+        le-ltb a 0x043 (omega arith),
+        le-ltb a 0x064 (omega arith),
+        le-ltb a 0x065 (omega arith),
+        le-ltb a 0x086 (omega arith),
+        le-ltb a 0x0A7 (omega arith),
+        le-ltb a 0x0AA (omega arith),
+        lt-ltb a 0x100 h,
+      ) refl
+
+  pub in-current : 0x100 ≤ a → a < 0x1C6 → Current ≡ kindOf a
+  unfolding kindOf
+  in-current l h =
+      rw (
+        le-ltb a 0x00C (omega arith),
+        le-ltb a 0x043 (omega arith),
+        le-ltb a 0x064 (omega arith),
+        le-ltb a 0x065 (omega arith),
+        le-ltb a 0x086 (omega arith),
+        le-ltb a 0x0A7 (omega arith),
+        le-ltb a 0x0AA (omega arith),
+        le-ltb a 0x100 (omega arith),
+        lt-ltb a 0x1C6 h,
+      ) refl
+
+  pub hole-below-levels : 0x1C6 ≤ a → a < 0x200 → Hole ≡ kindOf a
+  unfolding kindOf
+  hole-below-levels l h =
+      rw (
+        le-ltb a 0x00C (omega arith),
+        le-ltb a 0x043 (omega arith),
+        le-ltb a 0x064 (omega arith),
+        le-ltb a 0x065 (omega arith),
+        le-ltb a 0x086 (omega arith),
+        le-ltb a 0x0A7 (omega arith),
+        le-ltb a 0x0AA (omega arith),
+        le-ltb a 0x100 (omega arith),
+        le-ltb a 0x1C6 (omega arith),
+        lt-ltb a 0x200 h,
+      ) refl
+
+  pub in-pwm : 0x200 ≤ a → a < 0x38C → Pwm ≡ kindOf a
+  unfolding kindOf
+  in-pwm l h =
+      rw (
+        le-ltb a 0x00C (omega arith),
+        le-ltb a 0x043 (omega arith),
+        le-ltb a 0x064 (omega arith),
+        le-ltb a 0x065 (omega arith),
+        le-ltb a 0x086 (omega arith),
+        le-ltb a 0x0A7 (omega arith),
+        le-ltb a 0x0AA (omega arith),
+        le-ltb a 0x100 (omega arith),
+        le-ltb a 0x1C6 (omega arith),
+        le-ltb a 0x200 (omega arith),
+        lt-ltb a 0x38C h,
+      ) refl
+
+  pub hole-behind : 0x38C ≤ a → Hole ≡ kindOf a
+  unfolding kindOf
+  hole-behind l =
+      rw (
+        le-ltb a 0x00C (omega arith),
+        le-ltb a 0x043 (omega arith),
+        le-ltb a 0x064 (omega arith),
+        le-ltb a 0x065 (omega arith),
+        le-ltb a 0x086 (omega arith),
+        le-ltb a 0x0A7 (omega arith),
+        le-ltb a 0x0AA (omega arith),
+        le-ltb a 0x100 (omega arith),
+        le-ltb a 0x1C6 (omega arith),
+        le-ltb a 0x200 (omega arith),
+        le-ltb a 0x38C (omega arith),
+      ) refl

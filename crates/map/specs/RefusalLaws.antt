@@ -1,15 +1,31 @@
--- What Open answers, by the ranges of its arguments, and what follows from its acceptance.
+-- What Open answers, by the ranges of its arguments, and what follows from its acceptance. The numbers of an answer are those of its list.
 -- Assumes nothing.
-use mathlib.Core.Path.{_≡_, refl, sym, _∙_}
+use mathlib.Core.Path.{_≡_, refl, sym, ap, _∙_}
 use mathlib.Core.Bool.{Bool, true, false, cond, _&&_, _||_, false≢true}
+use mathlib.Core.List.{List, [], _∷_}
 use Prim.Native.Nat.{ℕ, _<_, _≤_}
 use native.Mathlib.Decide.{decLt}
 use native.Mathlib.Omega.{arith}
 use borrow.Author.Tests.{lt-ltb, le-ltb, eq-eqb}
 use lib.Dec.{ltb, eqb}
+use lib.ListN.{length, take}
+use lib.Seq.{take-all, take-nil}
 use Rattle.map.specs.declared.refusals.Refusal.the-variants.{Member, Bus, Pins}
 use Rattle.map.specs.declared.refusals.Answer.the-variants.{Accepted, Refused}
-use Rattle.map.specs.Refusals.{openAnswer, opens}
+use Rattle.map.specs.Refusals.{numbersIn, numbersOf, openAnswer, opens}
+
+-- an answer has at most four values
+pub numbers-five : (l : List ℕ) → numbersIn (numbersOf l) ≡ take 5 l
+unfolding numbersIn numbersOf
+numbers-five [] = refl
+numbers-five (n ∷ []) = refl
+numbers-five (n ∷ v ∷ []) = refl
+numbers-five (n ∷ v ∷ w ∷ []) = refl
+numbers-five (n ∷ v ∷ w ∷ x ∷ []) = refl
+numbers-five (n ∷ v ∷ w ∷ x ∷ y ∷ l) = ap (λ (r : List ℕ). n ∷ v ∷ w ∷ x ∷ y ∷ r) (take-nil (length l))
+
+pub numbers-back : (l : List ℕ) → length l ≤ 5 → numbersIn (numbersOf l) ≡ l
+numbers-back l h = numbers-five l ∙ take-all 5 l h
 
 module _ (m b p : ℕ) where
   pub open-member : 4 < m → openAnswer m b p ≡ Refused Member

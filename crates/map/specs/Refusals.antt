@@ -1,11 +1,14 @@
--- The number that document 01 gives each refusal (there is no 12), the answers that are no more than such a number, and
--- what Open answers.
+-- The number that document 01 gives each refusal (there is no 12), the answers that are no more than such a number, the numbers of any
+-- answer, and what Open answers.
 -- Assumes nothing.
 use mathlib.Core.Bool.{Bool, true, false, cond, _&&_, _||_}
+use mathlib.Core.List.{List, [], _∷_}
 use Prim.Native.Nat.{ℕ}
 use lib.Dec.{ltb, eqb}
+use lib.ListN.{length, getD, take}
 use Rattle.map.specs.declared.refusals.Answer.{Answer}
 use Rattle.map.specs.declared.refusals.Answer.the-variants.{Accepted, Refused}
+use Rattle.map.specs.declared.refusals.Numbers.{Numbers}
 use Rattle.map.specs.declared.refusals.Refusal.{Refusal}
 use Rattle.map.specs.declared.refusals.Refusal.the-variants.{Member, Bus, Pins, NotWritable, ReservedBit, NoDot, Level, GroupOrState, SceneLength, BufferShort, ListSizes, FaultLength, Unsound}
 
@@ -29,6 +32,21 @@ refusalNumber Unsound = 14
 abbrev pub answerNumber : Answer → ℕ
 answerNumber Accepted = 0
 answerNumber (Refused r) = refusalNumber r
+
+-- the number of an answer and its values, in order: the first `count` of five
+unfoldable pub numbersIn : Numbers → List ℕ
+numbersIn n = take (n .count) (n .number ∷ n .first ∷ n .second ∷ n .third ∷ n .fourth ∷ [])
+
+-- the numbers of a list, with 0 where it has none
+unfoldable pub numbersOf : List ℕ → Numbers
+numbersOf l = record {
+  count = length l;
+  number = getD l 0 0;
+  first = getD l 1 0;
+  second = getD l 2 0;
+  third = getD l 3 0;
+  fourth = getD l 4 0;
+}
 
 -- "an accepted Open": the answer is no refusal
 abbrev pub accepted : Answer → Bool

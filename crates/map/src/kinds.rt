@@ -3,6 +3,7 @@
 // An entry is a named number and not the enum itself: a constant array of 908 enums is beyond the checker
 // (docs/DECISIONS.md), so `kind_in` turns the number into its Kind.
 ghost use mathlib.Core.Path.{_≡_};
+ghost use Prim.Native.Nat.{_<_, _≤_};
 ghost use Rattle.map.specs.Map.{kindOf};
 ghost use Rattle.map.specs.KindTable.{kindTable, kindIn};
 
@@ -990,10 +991,50 @@ pub fn kind_in(kinds: &[u8], address: usize) -> Kind
     }
 }
 
-// The kind of any address.
+// The kind of any address, by its ranges: for one address that is cheaper than the table, which is built anew at each use.
 pub fn kind_at(address: usize) -> Kind
     ensures { λ r. ⌜ r ≡ kindOf address ⌝ }
 {
-    let kinds = kind_table();
-    kind_in(&kinds, address)
+    if address < 0x00C {
+        return Kind::Config;
+    }
+    if address < 0x043 {
+        return Kind::Group;
+    }
+    if address < 0x064 {
+        return Kind::Switch;
+    }
+    if address < 0x0AA {
+        return read_only(address);
+    }
+    if address < 0x100 {
+        return Kind::Hole;
+    }
+    if address < 0x1C6 {
+        return Kind::Current;
+    }
+    if address < 0x200 {
+        return Kind::Hole;
+    }
+    if address < 0x38C {
+        return Kind::Pwm;
+    }
+    Kind::Hole
+}
+
+// The fault bytes and the commands, 064h to 0A9h.
+fn read_only(address: usize) -> Kind
+    requires { ⌜ (0x064 ≤ address) × (address < 0x0AA) ⌝ }
+    ensures { λ r. ⌜ r ≡ kindOf address ⌝ }
+{
+    if address < 0x065 {
+        return Kind::FaultState;
+    }
+    if address < 0x086 {
+        return Kind::Open;
+    }
+    if address < 0x0A7 {
+        return Kind::Short;
+    }
+    Kind::Command
 }

@@ -1,6 +1,7 @@
 // The refusals of every call and their numbers, and what a call without further values answers.
+ghost use mathlib.Core.List.{[], _∷_};
 ghost use mathlib.Core.Path.{_≡_};
-ghost use Rattle.map.specs.Refusals.{refusalNumber, answerNumber, openAnswer};
+ghost use Rattle.map.specs.Refusals.{refusalNumber, answerNumber, numbersOf, openAnswer};
 
 pub enum Refusal {
     // a member above 4
@@ -65,6 +66,58 @@ pub fn answer_number(answer: Answer) -> u8
         Answer::Accepted => 0,
         Answer::Refused(refusal) => refusal_number(refusal),
     }
+}
+
+// The number of an answer, 0 or a refusal's, and the values that come with it: the first `count` of the five numbers. (Fields, since an
+// enum holds no struct that has an array.)
+pub struct Numbers {
+    pub count: usize,
+    pub number: usize,
+    pub first: usize,
+    pub second: usize,
+    pub third: usize,
+    pub fourth: usize,
+}
+
+// `N`
+pub fn number_alone(number: usize) -> Numbers
+    ensures { λ r. ⌜ r ≡ numbersOf (number ∷ []) ⌝ }
+{
+    Numbers {
+        count: 1,
+        number: number,
+        first: 0,
+        second: 0,
+        third: 0,
+        fourth: 0,
+    }
+}
+
+// `N V`
+pub fn with_value(number: usize, first: usize) -> Numbers
+    ensures { λ r. ⌜ r ≡ numbersOf (number ∷ first ∷ []) ⌝ }
+{
+    let mut numbers = number_alone(number);
+    numbers.count = 2;
+    numbers.first = first;
+    numbers
+}
+
+// `N V W`
+pub fn with_values(number: usize, first: usize, second: usize) -> Numbers
+    ensures { λ r. ⌜ r ≡ numbersOf (number ∷ first ∷ second ∷ []) ⌝ }
+{
+    let mut numbers = with_value(number, first);
+    numbers.count = 3;
+    numbers.second = second;
+    numbers
+}
+
+// The number alone.
+pub fn answer_numbers(answer: Answer) -> Numbers
+    ensures { λ r. ⌜ r ≡ numbersOf (answerNumber answer ∷ []) ⌝ }
+{
+    number_alone(answer_number(answer) as usize)
 }
 
 // What Open answers to a member, a bus (0 I2C, 1 SPI) and pins.

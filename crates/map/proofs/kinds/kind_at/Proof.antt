@@ -1,23 +1,39 @@
 -- `map::kinds::kind_at` meets its contract.
 -- Assumes nothing.
-use mathlib.Core.Path.{_∙_}
-use Rattle.map.specs.KindLaws.{kind-in-table}
+use Rattle.map.specs.KindLaws.{in-config, in-group, in-switch, hole-below-currents, in-current, hole-below-levels, in-pwm, hole-behind}
 use borrow.Author.Needs.{needs}
 use Rattle.map.proofs.kinds.kind_at.Statement.{statement}
 use Rattle.map.proofs.kinds.kind_at.Tie as tie
 
-kind-table-requires : tie.Need-kind-table-requires
-kind-table-requires c κs = search needs
-
-slice-aggregate-kind-in : tie.Need-slice-aggregate-kind-in
-slice-aggregate-kind-in c = search needs
-
-kind-in-requires : tie.Need-kind-in-requires
-kind-in-requires c κs = search needs
-
 returns : tie.Need-returns
-returns c = c .kind-in .ensures ∙ kind-in-table _ _ (c .before .before .kind-table .ensures)
+returns c = in-config _ (c .if1 .taken)
+
+returns-2 : tie.Need-returns-2
+returns-2 c = in-group _ (c .before .if1 .left) (c .if2 .taken)
+
+returns-3 : tie.Need-returns-3
+returns-3 c = in-switch _ (c .before .if2 .left) (c .if3 .taken)
+
+read-only-requires : tie.Need-read-only-requires
+read-only-requires c κs = search needs
+
+returns-4 : tie.Need-returns-4
+returns-4 c = search needs
+
+returns-5 : tie.Need-returns-5
+returns-5 c = hole-below-currents _ (c .before .if4 .left) (c .if5 .taken)
+
+returns-6 : tie.Need-returns-6
+returns-6 c = in-current _ (c .before .if5 .left) (c .if6 .taken)
+
+returns-7 : tie.Need-returns-7
+returns-7 c = hole-below-levels _ (c .before .if6 .left) (c .if7 .taken)
+
+returns-8 : tie.Need-returns-8
+returns-8 c = in-pwm _ (c .before .if7 .left) (c .if8 .taken)
+
+returns-9 : tie.Need-returns-9
+returns-9 c = hole-behind _ (c .if8 .left)
 
 pub kind-at-spec : {M : Type 1} → statement M
-kind-at-spec =
-    tie.close (tie.spec kind-table-requires slice-aggregate-kind-in kind-in-requires returns)
+kind-at-spec = tie.close (tie.spec returns returns-2 returns-3 read-only-requires returns-4 returns-5 returns-6 returns-7 returns-8 returns-9)
