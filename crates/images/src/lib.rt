@@ -7,7 +7,9 @@
 mod tables;
 
 ghost use mathlib.Core.Path.{_≡_};
+ghost use mathlib.Core.Bool.{cond};
 ghost use Prim.Native.Nat.{ℕ, _+_, _*_, _-_, _<_, _≤_};
+ghost use lib.Dec.{eqb};
 ghost use lib.ListN.{length};
 ghost use Rattle.map.specs.Lists.{allFrom};
 ghost use Rattle.map.specs.Map.{linesOf};
@@ -208,5 +210,41 @@ pub fn reset_image(member: usize) -> [u8; 908]
         3 => reset_lp5867(),
         4 => reset_lp5868t(),
         _ => zero_image(),
+    }
+}
+
+// The table's bytes into an image.
+fn copy(image: &mut [u8], table: &[u8])
+    requires { ⌜ (length (now image) ≡ 908) × (length (now table) ≡ 908) ⌝ }
+    ensures { λ _. ⌜ now (image .exit) ≡ now (table .entry) ⌝ }
+{
+    let mut a: usize = 0;
+    while a < 908 {
+        image[a] = table[a];
+        a += 1;
+    }
+}
+
+// As above, into an image that is lent. The compiler stores the values of the member where they belong: no table is built on the way.
+fn put_member(member: usize, image: &mut [u8])
+    requires { ⌜ length (now image) ≡ 908 ⌝ }
+    ensures { λ _. ⌜ now (image .exit) ≡ resetImage member ⌝ }
+{
+    match member {
+        0 => copy(image, &reset_lp5860()),
+        1 => copy(image, &reset_lp5861t()),
+        2 => copy(image, &reset_lp5864()),
+        3 => copy(image, &reset_lp5867()),
+        4 => copy(image, &reset_lp5868t()),
+        _ => copy(image, &zero_image()),
+    }
+}
+
+// The same for any bytes: other than 908 are no image, and stay as they are.
+pub fn put_reset(member: usize, image: &mut [u8])
+    ensures { λ _. ⌜ now (image .exit) ≡ cond (eqb (length (now (image .entry))) 908) (resetImage member) (now (image .entry)) ⌝ }
+{
+    if image.len() == 908 {
+        put_member(member, image);
     }
 }
