@@ -1,47 +1,46 @@
-// What each setting answers: the refusals in the order that the calls check them.
+// What each call answers: the refusals in the order that the calls check them.
 ghost use mathlib.Core.Path.{_≡_};
 ghost use mathlib.Core.Bool.{cond};
-ghost use lib.ListN.{length};
-ghost use Rattle.host.specs.Record.{recordOf, soundOf, soundAnswer, registerAnswer, topLevel, whenDot, lampAnswer, fieldAnswer};
+ghost use lib.Dec.{leb};
 ghost use Rattle.map.specs.declared.refusals.Answer.the-variants.{Accepted, Refused};
-ghost use Rattle.map.specs.declared.refusals.Refusal.the-variants.{NotWritable, ReservedBit};
-ghost use Rattle.map.specs.Map.{dataMode, isWide, writableOf};
-ghost use Rattle.map.specs.Images.{okByte};
+ghost use Rattle.host.specs.Record.{recordOf, soundOf, soundAnswer, registerAnswer, whenDot, argumentsAnswer, settingAnswer};
+use crate::Header;
+use crate::scenes;
+use calls::Setting;
 use map::Answer;
 use map::Refusal;
 
-pub(crate) fn sound<'a>(member: u8, bus: u8, pins: u8, settings: &'a [u8], image: &'a [u8]) -> bool
-    ensures { λ r. ⌜ r ≡ soundOf (recordOf member bus pins (now (settings .entry)) (now (image .entry))) ⌝ }
+// Whether a record is sound, given in its parts.
+pub fn sound_parts<'a>(header: Header, settings: &'a [u8], image: &'a [u8]) -> bool
+    ensures { λ r. ⌜ r ≡ soundOf (recordOf header (now (settings .entry)) (now (image .entry))) ⌝ }
 {
-    let answer = map::open_answer(member as usize, bus as usize, pins as usize);
+    let member = header.member as usize;
+    let answer = map::open_answer(member, header.bus as usize, header.pins as usize);
     let Answer::Accepted = answer else {
         return false;
     };
-    if !images::image_ok(member as usize, settings) {
+    if !images::image_ok(member, settings) {
         return false;
     }
-    images::image_ok(member as usize, image)
+    images::image_ok(member, image)
 }
 
-pub(crate) fn sound_answer<'a>(
-    member: u8,
-    bus: u8,
-    pins: u8,
-    settings: &'a [u8],
-    image: &'a [u8],
-) -> Answer
-    ensures { λ r. ⌜ r ≡ soundAnswer (recordOf member bus pins (now (settings .entry)) (now (image .entry))) ⌝ }
+// What a call answers that refuses an unsound record and nothing else.
+pub fn sound_answer<'a>(header: Header, settings: &'a [u8], image: &'a [u8]) -> Answer
+    ensures { λ r. ⌜ r ≡ soundAnswer (recordOf header (now (settings .entry)) (now (image .entry))) ⌝ }
 {
-    if !sound(member, bus, pins, settings, image) {
+    if !sound_parts(header, settings, image) {
         return Answer::Refused(Refusal::Unsound);
     }
     Answer::Accepted
 }
 
-// What a byte at an address is refused for: no writable bit, or a reserved bit that is not the reset value's.
-fn byte(member: usize, address: usize, value: u8) -> Answer
-    ensures { λ r. ⌜ r ≡ cond (writableOf member address) (cond (okByte member address value) Accepted (Refused ReservedBit)) (Refused NotWritable) ⌝ }
+// A byte is refused for an address with no writable bit, or for a reserved bit that is not the reset value's; a value above 255 has
+// bits that no register has.
+fn register(header: Header, address: usize, value: usize) -> Answer
+    ensures { λ r. ⌜ r ≡ registerAnswer header address value ⌝ }
 {
+    let member = header.member as usize;
     let kind = map::kind_at(address);
     let lines = map::lines(member);
     let columns = map::columns(member);
@@ -49,109 +48,77 @@ fn byte(member: usize, address: usize, value: u8) -> Answer
     if 255 <= mask {
         return Answer::Refused(Refusal::NotWritable);
     }
-    let reset = map::reset_as(kind, member, address);
-    if value & mask != reset & mask {
+    if 255 < value {
         return Answer::Refused(Refusal::ReservedBit);
     }
-    Answer::Accepted
-}
-
-pub(crate) fn register<'a>(
-    member: u8,
-    bus: u8,
-    pins: u8,
-    settings: &'a [u8],
-    image: &'a [u8],
-    address: usize,
-    value: u8,
-) -> Answer
-    ensures { λ r. ⌜ r ≡ registerAnswer (recordOf member bus pins (now (settings .entry)) (now (image .entry))) address value ⌝ }
-{
-    if !sound(member, bus, pins, settings, image) {
-        return Answer::Refused(Refusal::Unsound);
+    let reset = map::reset_as(kind, member, address);
+    if value as u8 & mask == reset & mask {
+        Answer::Accepted
+    } else {
+        Answer::Refused(Refusal::ReservedBit)
     }
-    byte(member as usize, address, value)
 }
 
-// Whether a byte of 001h has a data mode of 16-bit levels.
-pub(crate) fn is_wide(byte: u8) -> bool
-    ensures { λ r. ⌜ r ≡ isWide (dataMode byte) ⌝ }
-{
-    2 <= byte / 2 % 4
-}
-
-// The largest level that the data mode of the settings holds.
-pub(crate) fn top_level(settings: &[u8]) -> usize
-    requires { ⌜ length (now settings) ≡ 908 ⌝ }
-    ensures { λ r. ⌜ r ≡ topLevel (now (settings .entry)) ⌝ }
-{
-    if is_wide(settings[0x001]) { 65535 } else { 255 }
-}
-
-// A sound record and a dot that its member has.
-fn dot<'a>(
-    member: u8,
-    bus: u8,
-    pins: u8,
-    settings: &'a [u8],
-    image: &'a [u8],
-    line: usize,
-    sink: usize,
-) -> Answer
-    ensures { λ r. ⌜ r ≡ whenDot (recordOf member bus pins (now (settings .entry)) (now (image .entry))) line sink Accepted ⌝ }
-{
-    if !sound(member, bus, pins, settings, image) {
-        return Answer::Refused(Refusal::Unsound);
-    }
-    if !map::is_dot(member as usize, line, sink) {
-        return Answer::Refused(Refusal::NoDot);
-    }
-    Answer::Accepted
-}
-
-pub(crate) fn lamp<'a>(
-    member: u8,
-    bus: u8,
-    pins: u8,
-    settings: &'a [u8],
-    image: &'a [u8],
-    line: usize,
-    sink: usize,
-    level: usize,
-) -> Answer
-    requires { ⌜ length (now settings) ≡ 908 ⌝ }
-    ensures { λ r. ⌜ r ≡ lampAnswer (recordOf member bus pins (now (settings .entry)) (now (image .entry))) line sink level ⌝ }
-{
-    let answer = dot(member, bus, pins, settings, image, line, sink);
-    let Answer::Accepted = answer else {
-        return answer;
-    };
-    if top_level(settings) < level {
-        return Answer::Refused(Refusal::Level);
-    }
-    Answer::Accepted
-}
-
-// A dot's group or switch, whose value is at most `top`.
-pub(crate) fn field<'a>(
-    member: u8,
-    bus: u8,
-    pins: u8,
-    settings: &'a [u8],
-    image: &'a [u8],
+// A dot's level, group or switch: a value above `top` gets `refusal`.
+fn field(
+    header: Header,
     line: usize,
     sink: usize,
     value: usize,
     top: usize,
+    refusal: Refusal,
 ) -> Answer
-    ensures { λ r. ⌜ r ≡ fieldAnswer (recordOf member bus pins (now (settings .entry)) (now (image .entry))) line sink value top ⌝ }
+    ensures { λ r. ⌜ r ≡ whenDot header line sink (cond (leb value top) Accepted (Refused refusal)) ⌝ }
 {
-    let answer = dot(member, bus, pins, settings, image, line, sink);
+    let exists = map::is_dot(header.member as usize, line, sink);
+    if !exists {
+        return Answer::Refused(Refusal::NoDot);
+    }
+    if top < value {
+        return Answer::Refused(refusal);
+    }
+    Answer::Accepted
+}
+
+// The arguments of a setting, for a sound record.
+fn arguments(header: Header, settings: &[u8], setting: Setting, lent: &[u8]) -> Answer
+    ensures { λ r. ⌜ r ≡ argumentsAnswer header (now (settings .entry)) setting (now (lent .entry)) ⌝ }
+{
+    match setting {
+        Setting::Register { address, value } => register(header, address, value),
+        Setting::Lamp { line, sink, level } => {
+            field(
+                header,
+                line,
+                sink,
+                level,
+                dots::top_level(settings),
+                Refusal::Level,
+            )
+        }
+        Setting::Group { line, sink, group } => {
+            field(header, line, sink, group, 3, Refusal::GroupOrState)
+        }
+        Setting::Switch { line, sink, state } => {
+            field(header, line, sink, state, 1, Refusal::GroupOrState)
+        }
+        Setting::Scene => scenes::answer(header, settings, lent),
+    }
+}
+
+// What a setting answers; a scene's bytes are lent.
+pub fn setting_answer<'a>(
+    header: Header,
+    settings: &'a [u8],
+    image: &'a [u8],
+    setting: Setting,
+    lent: &[u8],
+) -> Answer
+    ensures { λ r. ⌜ r ≡ settingAnswer (recordOf header (now (settings .entry)) (now (image .entry))) setting (now (lent .entry)) ⌝ }
+{
+    let answer = sound_answer(header, settings, image);
     let Answer::Accepted = answer else {
         return answer;
     };
-    if top < value {
-        return Answer::Refused(Refusal::GroupOrState);
-    }
-    Answer::Accepted
+    arguments(header, settings, setting, lent)
 }

@@ -1,22 +1,29 @@
 // A scene: a count n of two bytes, n dot numbers of one byte, n levels of two bytes, all low byte first.
 ghost use mathlib.Core.Path.{_≡_};
-ghost use mathlib.Core.Bool.{true, cond};
 ghost use Prim.Native.Nat.{_+_, _*_, _<_, _≤_};
+ghost use mathlib.Core.Bool.{cond};
 ghost use lib.ListN.{length};
-ghost use Rattle.map.specs.Refusals.{accepted};
 ghost use Rattle.map.specs.Lists.{allFrom};
-ghost use Rattle.host.specs.Record.{recordOf, wordAt, sceneCount, sceneSized, sceneHasDot, sceneFits, sceneAnswer, putScene};
-ghost use Rattle.host.specs.Numbered.{Numbered};
-use crate::answers;
-use crate::store;
+ghost use Rattle.host.specs.Record.{sceneWord, sceneCount, sceneSized, sceneHasDot, sceneFits, sceneAnswer, putScene};
+use crate::Header;
 use map::Answer;
 use map::Refusal;
 
-fn word_at(bytes: &[u8], at: usize) -> usize
+fn word(bytes: &[u8], at: usize) -> usize
     requires { ⌜ at + 1 < length (now bytes) ⌝ }
-    ensures { λ r. ⌜ (r ≡ wordAt (now (bytes .entry)) at) × (r < 65536) ⌝ }
+    ensures { λ r. ⌜ (r ≡ sceneWord (now (bytes .entry)) at) × (r < 65536) ⌝ }
 {
     (bytes[at] as usize) + 256 * (bytes[at + 1] as usize)
+}
+
+// Two bytes of a count, and three for each entry.
+fn sized(bytes: &[u8]) -> bool
+    ensures { λ r. ⌜ r ≡ sceneSized (now (bytes .entry)) ⌝ }
+{
+    if bytes.len() < 2 {
+        return false;
+    }
+    bytes.len() == 2 + 3 * word(bytes, 0)
 }
 
 // Every one of n dot numbers names a dot of the member.
@@ -43,7 +50,7 @@ fn levels_fit(top: usize, bytes: &[u8], n: usize) -> bool
 {
     let mut i: usize = 0;
     while i < n {
-        if top < word_at(bytes, 2 + n + 2 * i) {
+        if top < word(bytes, 2 + n + 2 * i) {
             return false;
         }
         i += 1;
@@ -51,56 +58,41 @@ fn levels_fit(top: usize, bytes: &[u8], n: usize) -> bool
     true
 }
 
-pub(crate) fn answer<'a>(
-    member: u8,
-    bus: u8,
-    pins: u8,
-    settings: &'a [u8],
-    image: &'a [u8],
-    bytes: &[u8],
-) -> Answer
-    requires { ⌜ length (now settings) ≡ 908 ⌝ }
-    ensures { λ r. ⌜ r ≡ sceneAnswer (recordOf member bus pins (now (settings .entry)) (now (image .entry))) (now (bytes .entry)) ⌝ }
+pub(crate) fn answer(header: Header, settings: &[u8], bytes: &[u8]) -> Answer
+    ensures { λ r. ⌜ r ≡ sceneAnswer header (now (settings .entry)) (now (bytes .entry)) ⌝ }
 {
-    if !answers::sound(member, bus, pins, settings, image) {
-        return Answer::Refused(Refusal::Unsound);
-    }
-    if bytes.len() < 2 {
+    if !sized(bytes) {
         return Answer::Refused(Refusal::SceneLength);
     }
-    let n = word_at(bytes, 0);
-    if bytes.len() != 2 + 3 * n {
-        return Answer::Refused(Refusal::SceneLength);
-    }
-    if !has_dots(member as usize, bytes, n) {
+    let n = word(bytes, 0);
+    if !has_dots(header.member as usize, bytes, n) {
         return Answer::Refused(Refusal::NoDot);
     }
-    if !levels_fit(answers::top_level(settings), bytes, n) {
+    if !levels_fit(dots::top_level(settings), bytes, n) {
         return Answer::Refused(Refusal::Level);
     }
     Answer::Accepted
 }
 
-// The entries in order, each as a lamp of its own.
-fn store_all(settings: &mut [u8; 908], bytes: &[u8], n: usize)
-    requires { ⌜ (length (now settings) ≡ 908) × (n ≡ sceneCount (now bytes)) × (length (now bytes) ≡ 2 + 3 * n) × Numbered (now bytes) n ⌝ }
+// The entries in order, each as a lamp of its own. No level changes the data mode.
+fn put_all(settings: &mut [u8], bytes: &[u8], n: usize)
+    requires { ⌜ (n ≡ sceneCount (now bytes)) × (length (now bytes) ≡ 2 + 3 * n) ⌝ }
     ensures { λ _. ⌜ now (settings .exit) ≡ putScene (now (bytes .entry)) (now (settings .entry)) n ⌝ }
 {
+    let wide = dots::wide(settings);
     let mut entry: usize = 0;
     while entry < n {
-        let level = word_at(bytes, 2 + n + 2 * entry);
-        store::put_level(settings, bytes[2 + entry] as usize, level);
+        let level = word(bytes, 2 + n + 2 * entry);
+        dots::put_level_as(settings, wide, bytes[2 + entry], level);
         entry += 1;
     }
 }
 
-pub(crate) fn store(answer: Answer, settings: &mut [u8; 908], bytes: &[u8])
-    requires { ⌜ (length (now settings) ≡ 908) × (accepted answer ≡ true → (sceneSized (now bytes) ≡ true) × Numbered (now bytes) (sceneCount (now bytes))) ⌝ }
-    ensures { λ _. ⌜ now (settings .exit) ≡ cond (accepted answer) (putScene (now (bytes .entry)) (now (settings .entry)) (sceneCount (now (bytes .entry)))) (now (settings .entry)) ⌝ }
+// A scene of the right length; any other puts nothing.
+pub(crate) fn put(settings: &mut [u8], bytes: &[u8])
+    ensures { λ _. ⌜ now (settings .exit) ≡ cond (sceneSized (now (bytes .entry))) (putScene (now (bytes .entry)) (now (settings .entry)) (sceneCount (now (bytes .entry)))) (now (settings .entry)) ⌝ }
 {
-    let Answer::Accepted = answer else {
-        return;
-    };
-    let n = word_at(bytes, 0);
-    store_all(settings, bytes, n);
+    if sized(bytes) {
+        put_all(settings, bytes, word(bytes, 0));
+    }
 }

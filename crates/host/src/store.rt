@@ -1,27 +1,34 @@
-// What each setting stores where it is accepted; a refused one stores nothing.
+// What each call stores where it is accepted; a refused one stores nothing.
 ghost use mathlib.Core.Path.{_≡_};
-ghost use mathlib.Core.Bool.{true, cond};
-ghost use Prim.Native.Nat.{_+_, _<_, _≤_, _^_};
+ghost use mathlib.Core.Bool.{true, cond, _&&_};
+ghost use mathlib.Core.List.{List};
+ghost use Prim.Native.Nat.{ℕ, _<_};
+ghost use lib.Dec.{eqb, ltb};
 ghost use lib.ListN.{length, set};
 ghost use Rattle.map.specs.Refusals.{accepted};
 ghost use Rattle.map.specs.Images.{resetImage};
-ghost use Rattle.map.specs.Map.{isDot, dotNumber, widthOf};
-ghost use Rattle.host.specs.Record.{opened, openState, putBits, putField, putLevel};
+ghost use Rattle.map.specs.Map.{dotNumber};
+ghost use Rattle.dots.specs.Dots.{putLevel};
+ghost use Rattle.host.specs.Record.{recordOf, opened, openHost, settingAnswer, putSetting};
+use crate::Header;
 use crate::Record;
-use crate::answers;
+use crate::scenes;
+use calls::Setting;
 use map::Answer;
 use map::Field;
-use map::Place;
 
 fn new_record(member: usize, bus: usize, pins: usize) -> Record
     requires { ⌜ (member < 5) × (bus < 2) × (pins < 4) ⌝ }
     ensures { λ r. ⌜ r ≡ opened member bus pins ⌝ }
 {
     let image = images::reset_image(member);
-    Record {
+    let header = Header {
         member: member as u8,
         bus: bus as u8,
         pins: pins as u8,
+    };
+    Record {
+        header: header,
         settings: image,
         image: image,
     }
@@ -29,104 +36,105 @@ fn new_record(member: usize, bus: usize, pins: usize) -> Record
 
 pub(crate) fn opened(answer: Answer, member: usize, bus: usize, pins: usize) -> Record
     requires { ⌜ (accepted answer ≡ true → (member < 5) × (bus < 2) × (pins < 4)) ⌝ }
-    ensures { λ r. ⌜ r ≡ openState answer member bus pins ⌝ }
+    ensures { λ r. ⌜ r ≡ openHost answer member bus pins ⌝ }
 {
-    let Answer::Accepted = answer else {
-        return new_record(0, 0, 0);
-    };
-    new_record(member, bus, pins)
-}
-
-pub(crate) fn register(answer: Answer, settings: &mut [u8; 908], address: usize, value: u8)
-    requires { ⌜ (length (now settings) ≡ 908) × (accepted answer ≡ true → address < 908) ⌝ }
-    ensures { λ _. ⌜ now (settings .exit) ≡ cond (accepted answer) (set (now (settings .entry)) address value) (now (settings .entry)) ⌝ }
-{
-    let Answer::Accepted = answer else {
-        return;
-    };
-    settings[address] = value;
-}
-
-// The level of the dot with this number, in the data mode of the settings.
-pub(crate) fn put_level(settings: &mut [u8; 908], number: usize, level: usize)
-    requires { ⌜ (length (now settings) ≡ 908) × (number < 198) ⌝ }
-    ensures { λ _. ⌜ now (settings .exit) ≡ putLevel (now (settings .entry)) number level ⌝ }
-{
-    if !answers::is_wide(settings[0x001]) {
-        settings[0x200 + number] = (level % 256) as u8;
-        return;
-    }
-    settings[0x200 + 2 * number] = (level % 256) as u8;
-    settings[0x200 + 2 * number + 1] = (level / 256 % 256) as u8;
-}
-
-pub(crate) fn lamp(answer: Answer, settings: &mut [u8; 908], line: usize, sink: usize, value: usize)
-    requires { ⌜ (length (now settings) ≡ 908) × (accepted answer ≡ true → (line < 11) × (sink < 18)) ⌝ }
-    ensures { λ _. ⌜ now (settings .exit) ≡ cond (accepted answer) (putLevel (now (settings .entry)) (dotNumber line sink) value) (now (settings .entry)) ⌝ }
-{
-    let Answer::Accepted = answer else {
-        return;
-    };
-    put_level(settings, 18 * line + sink, value);
-}
-
-// 2 to the power of a bit's number.
-fn weight(bit: usize) -> u8
-    requires { ⌜ bit < 8 ⌝ }
-    ensures { λ r. ⌜ (r ≡ 2 ^ bit) × (0 < r) ⌝ }
-{
-    match bit {
-        0 => 1,
-        1 => 2,
-        2 => 4,
-        3 => 8,
-        4 => 16,
-        5 => 32,
-        6 => 64,
-        _ => 128,
+    match answer {
+        Answer::Accepted => new_record(member, bus, pins),
+        Answer::Refused(_) => new_record(0, 0, 0),
     }
 }
 
-// A byte with a value in the bits from `shift` up.
-fn put_bits(byte: u8, shift: usize, width: usize, value: u8) -> u8
-    requires { ⌜ (width < 8) × (shift + width ≤ 8) × (0 < width) × (value < 2 ^ width) ⌝ }
-    ensures { λ r. ⌜ r ≡ putBits shift width byte value ⌝ }
+// One byte, where the image has its address.
+fn put_byte(settings: &mut [u8], address: usize, value: u8)
+    ensures { λ _. ⌜ now (settings .exit) ≡ set (now (settings .entry)) address value ⌝ }
 {
-    let unit = weight(shift);
-    let old = byte / unit % weight(width);
-    byte - old * unit + value * unit
+    if address < settings.len() {
+        settings[address] = value;
+    }
 }
 
-// A dot's group or switch.
-pub(crate) fn field(
+// The level of a dot of the LP5860, the largest member.
+fn put_lamp(settings: &mut [u8], line: usize, sink: usize, level: usize)
+    ensures { λ _. ⌜ now (settings .exit) ≡ cond (ltb line 11 && ltb sink 18) (putLevel (now (settings .entry)) (dotNumber line sink) level) (now (settings .entry)) ⌝ }
+{
+    if 11 <= line {
+        return;
+    }
+    if 18 <= sink {
+        return;
+    }
+    dots::put_level(settings, (18 * line + sink) as u8, level);
+}
+
+// What a setting puts into the settings where its answer, that of a record with these settings, is Accepted.
+pub fn put_setting(
     answer: Answer,
-    which: Field,
-    member: usize,
-    settings: &mut [u8; 908],
-    line: usize,
-    sink: usize,
-    value: usize,
+    header: Header,
+    settings: &mut [u8],
+    setting: Setting,
+    lent: &[u8],
 )
-    requires { ⌜ (length (now settings) ≡ 908) × (widthOf which < 8) × (accepted answer ≡ true → (isDot member line sink ≡ true) × (value < 2 ^ widthOf which)) ⌝ }
-    ensures { λ _. ⌜ now (settings .exit) ≡ cond (accepted answer) (putField which (now (settings .entry)) line sink value) (now (settings .entry)) ⌝ }
+    ensures { λ _. ⌜ ((image : List ℕ) → answer ≡ settingAnswer (recordOf header (now (settings .entry)) image) setting (now (lent .entry)) → now (settings .exit) ≡ cond (accepted answer) (putSetting (now (settings .entry)) setting (now (lent .entry))) (now (settings .entry))) ⌝ }
 {
     let Answer::Accepted = answer else {
         return;
     };
-    let place = map::place_of(which, member, line, sink);
-    let Place::At { address, shift } = place else {
-        return;
-    };
-    let byte = settings[address];
-    settings[address] = put_bits(byte, shift, map::width_of(which), (value % 256) as u8);
+    let member = header.member as usize;
+    match setting {
+        Setting::Register { address, value } => put_byte(settings, address, (value % 256) as u8),
+        Setting::Lamp { line, sink, level } => put_lamp(settings, line, sink, level),
+        Setting::Group { line, sink, group } => {
+            dots::put_field(
+                Field::Group,
+                member,
+                settings,
+                line,
+                sink,
+                (group % 256) as u8,
+            )
+        }
+        Setting::Switch { line, sink, state } => {
+            dots::put_field(
+                Field::Switch,
+                member,
+                settings,
+                line,
+                sink,
+                (state % 256) as u8,
+            )
+        }
+        Setting::Scene => scenes::put(settings, lent),
+    }
 }
 
-// The chip image after a loss of power.
-pub(crate) fn lost(answer: Answer, member: usize, image: [u8; 908]) -> [u8; 908]
-    ensures { λ r. ⌜ r ≡ cond (accepted answer) (resetImage member) image ⌝ }
+// The same on the settings of a record by value.
+pub(crate) fn put_own(
+    answer: Answer,
+    header: Header,
+    settings: &mut [u8; 908],
+    setting: Setting,
+    lent: &[u8],
+)
+    ensures { λ _. ⌜ ((image : List ℕ) → answer ≡ settingAnswer (recordOf header (now (settings .entry)) image) setting (now (lent .entry)) → now (settings .exit) ≡ cond (accepted answer) (putSetting (now (settings .entry)) setting (now (lent .entry))) (now (settings .entry))) ⌝ }
 {
-    let Answer::Accepted = answer else {
-        return image;
-    };
-    images::reset_image(member)
+    put_setting(answer, header, settings, setting, lent);
+}
+
+// The reset values, into the image of a record whose Power lost or Reset was accepted.
+pub fn put_lost(answer: Answer, header: Header, image: &mut [u8])
+    ensures { λ _. ⌜ now (image .exit) ≡ cond (accepted answer && eqb (length (now (image .entry))) 908) (resetImage (header .member)) (now (image .entry)) ⌝ }
+{
+    let member = header.member as usize;
+    match answer {
+        Answer::Accepted => images::put_reset(member, image),
+        Answer::Refused(_) => {}
+    }
+}
+
+// The same on the image of a record by value.
+pub(crate) fn lose_own(answer: Answer, header: Header, image: &mut [u8; 908])
+    requires { ⌜ length (now image) ≡ 908 ⌝ }
+    ensures { λ _. ⌜ now (image .exit) ≡ cond (accepted answer) (resetImage (header .member)) (now (image .entry)) ⌝ }
+{
+    put_lost(answer, header, image);
 }

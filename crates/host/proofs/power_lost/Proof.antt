@@ -8,14 +8,11 @@ use Rattle.host.proofs.power_lost.Tie as tie
 sound-answer-requires : tie.Need-sound-answer-requires
 sound-answer-requires c κs = search needs
 
-cast-lost : tie.Need-cast-lost
-cast-lost c = search needs
-
-lost-requires : tie.Need-lost-requires
-lost-requires c κs = search needs
+lose-own-requires : tie.Need-lose-own-requires
+lose-own-requires c κs = search needs
 
 returns : tie.Need-returns
-returns c = lost-is _ _ _ (c .before .before .sound-answer .ensures) (c .lost .ensures)
+returns c = lost-is _ _ _ (c .before .before .sound-answer .ensures) (c .lose-own .ensures)
 
 pub power-lost-spec : {M : Type 1} → statement M
-power-lost-spec = tie.close (tie.spec sound-answer-requires cast-lost lost-requires returns)
+power-lost-spec = tie.close (tie.spec sound-answer-requires lose-own-requires returns)

@@ -1,29 +1,29 @@
 -- `host::answers::field` meets its contract.
 -- Assumes nothing.
-use Rattle.host.specs.Record.{fieldAnswer}
-use Rattle.host.proofs.Steps.{dot-refuses, field-above, field-within}
+use mathlib.Core.Path.{sym, _∙_}
+use borrow.Author.Tests.{not-true, not-false, lt-leb, le-leb}
+use Rattle.host.specs.Record.{whenDot}
 use borrow.Author.Needs.{needs}
 use Rattle.host.proofs.answers.field.Statement.{statement}
 use Rattle.host.proofs.answers.field.Tie as tie
 
-dot-requires : tie.Need-dot-requires
-dot-requires c κs = search needs
+cast-is-dot : tie.Need-cast-is-dot
+cast-is-dot c = search needs
 
-enum-told : tie.Need-enum-told
-enum-told c = search needs
-
-enum-told-2 : tie.Need-enum-told-2
-enum-told-2 c = search needs
+is-dot-requires : tie.Need-is-dot-requires
+is-dot-requires c κs = search needs
 
 returns : tie.Need-returns
-unfolding fieldAnswer
-returns c = dot-refuses _ _ _ _ _ _ (c .before .before .dot .ensures) (c .enum-told2 .given .1)
+unfolding whenDot
+returns c = simp (sym (c .before .is-dot .ensures) ∙ not-true _ (c .if1 .taken))
 
 returns-2 : tie.Need-returns-2
-returns-2 c = field-above _ _ _ _ _ _ (c .before .before .before .dot .ensures) (c .before .enum-told .given .1) (c .if1 .taken)
+unfolding whenDot
+returns-2 c = simp (sym (c .before .before .is-dot .ensures) ∙ not-false _ (c .before .if1 .left), lt-leb _ _ (c .if2 .taken))
 
 returns-3 : tie.Need-returns-3
-returns-3 c = field-within _ _ _ _ _ _ (c .before .before .before .dot .ensures) (c .before .enum-told .given .1) (c .if1 .left)
+unfolding whenDot
+returns-3 c = simp (sym (c .before .before .is-dot .ensures) ∙ not-false _ (c .before .if1 .left), le-leb _ _ (c .if2 .left))
 
 pub field-spec : {M : Type 1} → statement M
-field-spec = tie.close (tie.spec dot-requires enum-told enum-told-2 returns returns-2 returns-3)
+field-spec = tie.close (tie.spec cast-is-dot is-dot-requires returns returns-2 returns-3)

@@ -1,25 +1,84 @@
 -- `host::answers::register` meets its contract.
 -- Assumes nothing.
-use mathlib.Core.Path.{sym, _∙_}
-use borrow.Author.Tests.{not-true, not-false}
-use Rattle.host.specs.Record.{registerAnswer, whenSound}
+use Rattle.host.proofs.Steps.{mask-is, reset-is, not-writable, value-wide, bit-differs, bits-kept}
 use borrow.Author.Needs.{needs}
 use Rattle.host.proofs.answers.register.Statement.{statement}
 use Rattle.host.proofs.answers.register.Tie as tie
 
-sound-requires : tie.Need-sound-requires
-sound-requires c κs = search needs
+cast-member : tie.Need-cast-member
+cast-member c = search needs
+
+kind-at-requires : tie.Need-kind-at-requires
+kind-at-requires c κs = search needs
+
+lines-requires : tie.Need-lines-requires
+lines-requires c κs = search needs
+
+columns-requires : tie.Need-columns-requires
+columns-requires c κs = search needs
+
+reserved-as-requires : tie.Need-reserved-as-requires
+reserved-as-requires c κs = search needs
 
 returns : tie.Need-returns
-unfolding registerAnswer whenSound
-returns c = simp (sym (c .before .sound .ensures) ∙ not-true _ (c .if1 .taken))
-
-byte-requires : tie.Need-byte-requires
-byte-requires c κs = search needs
+returns c =
+    let mask = c .before in
+    let kind = mask .before .before .before in
+    not-writable _ _ _ _
+    (mask-is _ _ _ _ _ _ (kind .kind-at .ensures) (mask .before .before .lines .ensures .0) (mask .before .columns .ensures) (mask .reserved-as .ensures))
+    (c .if1 .taken)
 
 returns-2 : tie.Need-returns-2
-unfolding registerAnswer whenSound
-returns-2 c = c .byte .ensures ∙ simp (sym (c .before .before .sound .ensures) ∙ not-false _ (c .before .if1 .left))
+returns-2 c =
+    let mask = c .before .before in
+    let kind = mask .before .before .before in
+    value-wide _ _ _ _
+    (mask-is _ _ _ _ _ _ (kind .kind-at .ensures) (mask .before .before .lines .ensures .0) (mask .before .columns .ensures) (mask .reserved-as .ensures))
+    (c .before .if1 .left)
+    (c .if2 .taken)
+
+reset-as-requires : tie.Need-reset-as-requires
+reset-as-requires c κs = search needs
+
+cast-if3 : tie.Need-cast-if3
+cast-if3 c = search needs
+
+returns-3 : tie.Need-returns-3
+returns-3 c =
+    let mask = c .before .before .before .before in
+    let kind = mask .before .before .before in
+    bits-kept _ _ _ _
+    (mask-is _ _ _ _ _ _ (kind .kind-at .ensures) (mask .before .before .lines .ensures .0) (mask .before .columns .ensures) (mask .reserved-as .ensures))
+    _
+    (c .before .before .before .if1 .left)
+    (search needs)
+    (reset-is _ _ _ _ (kind .kind-at .ensures) (c .before .reset-as .ensures))
+    (c .if3 .taken)
+
+returns-4 : tie.Need-returns-4
+returns-4 c =
+    let mask = c .before .before .before .before in
+    let kind = mask .before .before .before in
+    bit-differs _ _ _ _
+    (mask-is _ _ _ _ _ _ (kind .kind-at .ensures) (mask .before .before .lines .ensures .0) (mask .before .columns .ensures) (mask .reserved-as .ensures))
+    _
+    (c .before .before .before .if1 .left)
+    (search needs)
+    (reset-is _ _ _ _ (kind .kind-at .ensures) (c .before .reset-as .ensures))
+    (c .if3 .left)
 
 pub register-spec : {M : Type 1} → statement M
-register-spec = tie.close (tie.spec sound-requires returns byte-requires returns-2)
+register-spec =
+    tie.close
+    (tie.spec
+    cast-member
+    kind-at-requires
+    lines-requires
+    columns-requires
+    reserved-as-requires
+    returns
+    returns-2
+    reset-as-requires
+    cast-if3
+    returns-3
+    returns-4)

@@ -2,71 +2,86 @@
 -- Assumes nothing.
 use mathlib.Core.Path.{sym, _∙_}
 use borrow.Author.Tests.{not-true, not-false}
-use Rattle.host.specs.Record.{sceneAnswer, whenSound}
-use Rattle.host.proofs.Steps.{scene-short, scene-missized, scene-sized, counted, levels-counted}
+use Rattle.host.specs.Record.{sceneAnswer}
+use Rattle.host.proofs.Steps.{scene-long, scene-size, scene-has-dots, counted, levels-counted}
 use borrow.Author.Needs.{needs}
 use Rattle.host.proofs.scenes.answer.Statement.{statement}
 use Rattle.host.proofs.scenes.answer.Tie as tie
 
-sound-requires : tie.Need-sound-requires
-sound-requires c κs = search needs
+sized-requires : tie.Need-sized-requires
+sized-requires c κs = search needs
 
 returns : tie.Need-returns
-unfolding sceneAnswer whenSound
-returns c = simp (sym (c .before .sound .ensures) ∙ not-true _ (c .if1 .taken))
+unfolding sceneAnswer
+returns c = simp (sym (c .before .sized .ensures) ∙ not-true _ (c .if1 .taken))
 
-returns-2 : tie.Need-returns-2
-unfolding sceneAnswer whenSound
-returns-2 c = simp (sym (c .before .before .sound .ensures) ∙ not-false _ (c .before .if1 .left), scene-short (c .before .before .before .before .before .before .args .bytes .now) (c .if2 .taken))
+word-requires : tie.Need-word-requires
+word-requires c κs = scene-long _ (sym (c .before .sized .ensures) ∙ not-false _ (c .if1 .left))
 
-word-at-requires : tie.Need-word-at-requires
-word-at-requires c κs = search needs
-
-mul-if3 : tie.Need-mul-if3
-mul-if3 c = search needs
-
-add-if3 : tie.Need-add-if3
-add-if3 c = search needs
-
-returns-3 : tie.Need-returns-3
-unfolding sceneAnswer whenSound
-returns-3 c = simp (sym (c .before .before .before .before .sound .ensures) ∙ not-false _ (c .before .before .before .if1 .left), scene-missized _ _ (c .before .word-at .ensures .0) (c .if3 .taken))
+cast-has-dots : tie.Need-cast-has-dots
+cast-has-dots c = search needs
 
 has-dots-requires : tie.Need-has-dots-requires
-has-dots-requires c κs = search needs
+has-dots-requires c κs =
+    let test = c .before .before in
+    let sized = sym (test .before .sized .ensures) ∙ not-false _ (test .if1 .left) in
+    scene-has-dots _ sized _ (c .before .word .ensures .0)
 
-returns-4 : tie.Need-returns-4
-unfolding sceneAnswer whenSound
-returns-4 c = simp (sym (c .before .before .before .before .before .before .sound .ensures) ∙ not-false _ (c .before .before .before .before .before .if1 .left), scene-sized _ _ (c .before .before .before .before .if2 .left) (c .before .before .before .word-at .ensures .0) (c .before .before .if3 .left), counted _ _ _ _ (c .before .before .before .word-at .ensures .0) (c .before .has-dots .ensures) ∙ not-true _ (c .if4 .taken))
+returns-2 : tie.Need-returns-2
+unfolding sceneAnswer
+returns-2 c =
+    let test = c .before .before .before .before in
+    let sized = sym (test .before .sized .ensures) ∙ not-false _ (test .if1 .left) in
+    let count = c .before .before .before .word .ensures .0 in
+    simp (sized, counted _ _ _ _ count (c .before .has-dots .ensures) ∙ not-true _ (c .if2 .taken))
 
 top-level-requires : tie.Need-top-level-requires
 top-level-requires c κs = search needs
 
 levels-fit-requires : tie.Need-levels-fit-requires
-levels-fit-requires c κs = (c .before .before .before .before .word-at .ensures .0, c .before .before .before .if3 .left)
+levels-fit-requires c κs =
+    let test = c .before .before .before .before .before in
+    let sized = sym (test .before .sized .ensures) ∙ not-false _ (test .if1 .left) in
+    let count = c .before .before .before .before .word .ensures .0 in
+    (count, scene-size _ sized _ count)
 
-returns-5 : tie.Need-returns-5
-unfolding sceneAnswer whenSound
-returns-5 c = simp (sym (c .before .before .before .before .before .before .before .before .before .sound .ensures) ∙ not-false _ (c .before .before .before .before .before .before .before .before .if1 .left), scene-sized _ _ (c .before .before .before .before .before .before .before .if2 .left) (c .before .before .before .before .before .before .word-at .ensures .0) (c .before .before .before .before .before .if3 .left), counted _ _ _ _ (c .before .before .before .before .before .before .word-at .ensures .0) (c .before .before .before .before .has-dots .ensures) ∙ not-false _ (c .before .before .before .if4 .left), levels-counted _ _ _ _ _ (c .before .before .before .before .before .before .word-at .ensures .0) (c .before .before .top-level .ensures) (c .before .levels-fit .ensures) ∙ not-true _ (c .if5 .taken))
+returns-3 : tie.Need-returns-3
+unfolding sceneAnswer
+returns-3 c =
+    let dots = c .before .before .before in
+    let counts = dots .before .before .before in
+    let test = counts .before in
+    let count = counts .word .ensures .0 in
+    simp (
+      sym (test .before .sized .ensures) ∙ not-false _ (test .if1 .left),
+      counted _ _ _ _ count (dots .before .has-dots .ensures) ∙ not-false _ (dots .if2 .left),
+      levels-counted _ _ _ _ _ count (c .before .before .top-level .ensures) (c .before .levels-fit .ensures) ∙ not-true _ (c .if3 .taken),
+    )
 
-returns-6 : tie.Need-returns-6
-unfolding sceneAnswer whenSound
-returns-6 c = simp (sym (c .before .before .before .before .before .before .before .before .before .sound .ensures) ∙ not-false _ (c .before .before .before .before .before .before .before .before .if1 .left), scene-sized _ _ (c .before .before .before .before .before .before .before .if2 .left) (c .before .before .before .before .before .before .word-at .ensures .0) (c .before .before .before .before .before .if3 .left), counted _ _ _ _ (c .before .before .before .before .before .before .word-at .ensures .0) (c .before .before .before .before .has-dots .ensures) ∙ not-false _ (c .before .before .before .if4 .left), levels-counted _ _ _ _ _ (c .before .before .before .before .before .before .word-at .ensures .0) (c .before .before .top-level .ensures) (c .before .levels-fit .ensures) ∙ not-false _ (c .if5 .left))
+returns-4 : tie.Need-returns-4
+unfolding sceneAnswer
+returns-4 c =
+    let dots = c .before .before .before in
+    let counts = dots .before .before .before in
+    let test = counts .before in
+    let count = counts .word .ensures .0 in
+    simp (
+      sym (test .before .sized .ensures) ∙ not-false _ (test .if1 .left),
+      counted _ _ _ _ count (dots .before .has-dots .ensures) ∙ not-false _ (dots .if2 .left),
+      levels-counted _ _ _ _ _ count (c .before .before .top-level .ensures) (c .before .levels-fit .ensures) ∙ not-false _ (c .if3 .left),
+    )
 
 pub answer-spec : {M : Type 1} → statement M
 answer-spec =
     tie.close
     (tie.spec
-    sound-requires
+    sized-requires
     returns
-    returns-2
-    word-at-requires
-    mul-if3
-    add-if3
-    returns-3
+    word-requires
+    cast-has-dots
     has-dots-requires
-    returns-4
+    returns-2
     top-level-requires
     levels-fit-requires
-    returns-5
-    returns-6)
+    returns-3
+    returns-4)

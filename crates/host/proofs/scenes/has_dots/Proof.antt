@@ -41,7 +41,13 @@ number-in-requires : tie.Need-number-in-requires Inv-loop μ-loop
 number-in-requires c κs = search needs
 
 returns : tie.Need-returns Inv-loop μ-loop
-returns c = sym (one-fails _ _ _ (omega arith) (scene-dot _ _ _ _ (c .before .before .before .before .loop .i) _ (c .before .before .before .before .before .before .lines .ensures .0) (c .before .before .before .before .before .columns .ensures) (c .before .number-in .ensures) ∙ not-true _ (c .if1 .taken)))
+returns c =
+    let turn = c .before .before .before .before in
+    let columns = turn .before in
+    sym
+    (one-fails _ _ _ (omega arith)
+    (scene-dot _ _ _ _ (turn .loop .i) _ (columns .before .lines .ensures .0) (columns .columns .ensures) (c .before .number-in .ensures)
+    ∙ not-true _ (c .if1 .taken)))
 
 add-i : tie.Need-add-i Inv-loop μ-loop
 add-i c = omega arith
@@ -50,7 +56,15 @@ loop-less : tie.Need-loop-less Inv-loop μ-loop
 loop-less c = omega arith
 
 loop-again : tie.Need-loop-again Inv-loop μ-loop
-loop-again c = (omega arith, next-holds _ _ (scene-dot _ _ _ _ (c .before .before .before .before .loop .i) _ (c .before .before .before .before .before .before .lines .ensures .0) (c .before .before .before .before .before .columns .ensures) (c .before .number-in .ensures) ∙ not-false _ (c .if1 .left)) (c .before .before .before .before .loop .inv .1))
+loop-again c =
+    let turn = c .before .before .before .before in
+    let columns = turn .before in (
+      omega arith,
+      next-holds _ _
+          (scene-dot _ _ _ _ (turn .loop .i) _ (columns .before .lines .ensures .0) (columns .columns .ensures) (c .before .number-in .ensures)
+          ∙ not-false _ (c .if1 .left))
+          (turn .loop .inv .1),
+    )
 
 returns-2 : tie.Need-returns-2 Inv-loop μ-loop
 returns-2 c = let e : c .before .loop .i ≡ c .before .before .before .before .before .args .n = omega arith in sym (rw e at (c .before .loop .inv .1))

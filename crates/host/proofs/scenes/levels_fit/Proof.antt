@@ -20,20 +20,24 @@ abbrev μ-loop : tie.MeasureT-loop
 loop-holds : tie.Need-loop-holds Inv-loop μ-loop
 loop-holds c = (omega arith, all-none _ _)
 
-add-word-at : tie.Need-add-word-at Inv-loop μ-loop
-add-word-at c = omega arith
+add-word : tie.Need-add-word Inv-loop μ-loop
+add-word c = omega arith
 
-mul-word-at : tie.Need-mul-word-at Inv-loop μ-loop
-mul-word-at c = omega arith
+mul-word : tie.Need-mul-word Inv-loop μ-loop
+mul-word c = omega arith
 
-add-word-at-2 : tie.Need-add-word-at-2 Inv-loop μ-loop
-add-word-at-2 c = omega arith
+add-word-2 : tie.Need-add-word-2 Inv-loop μ-loop
+add-word-2 c = omega arith
 
-word-at-requires : tie.Need-word-at-requires Inv-loop μ-loop
-word-at-requires c κs = omega arith
+word-requires : tie.Need-word-requires Inv-loop μ-loop
+word-requires c κs = omega arith
 
 returns : tie.Need-returns Inv-loop μ-loop
-returns c = sym (one-fails _ _ _ (omega arith) (level-above _ _ _ (c .before .before .before .loop .i) _ (c .before .before .before .before .before .pre .0) (c .before .word-at .ensures .0) (c .if1 .taken)))
+returns c =
+    let turn = c .before .before .before in
+    sym
+    (one-fails _ _ _ (omega arith)
+    (level-above _ _ _ (turn .loop .i) _ (turn .before .before .pre .0) (c .before .word .ensures .0) (c .if1 .taken)))
 
 add-i : tie.Need-add-i Inv-loop μ-loop
 add-i c = omega arith
@@ -42,7 +46,13 @@ loop-less : tie.Need-loop-less Inv-loop μ-loop
 loop-less c = omega arith
 
 loop-again : tie.Need-loop-again Inv-loop μ-loop
-loop-again c = (omega arith, next-holds _ _ (level-within _ _ _ (c .before .before .before .loop .i) _ (c .before .before .before .before .before .pre .0) (c .before .word-at .ensures .0) (c .if1 .left)) (c .before .before .before .loop .inv .1))
+loop-again c =
+    let turn = c .before .before .before in (
+      omega arith,
+      next-holds _ _
+          (level-within _ _ _ (turn .loop .i) _ (turn .before .before .pre .0) (c .before .word .ensures .0) (c .if1 .left))
+          (turn .loop .inv .1),
+    )
 
 returns-2 : tie.Need-returns-2 Inv-loop μ-loop
 returns-2 c = let e : c .before .loop .i ≡ c .before .before .before .args .n = omega arith in sym (rw e at (c .before .loop .inv .1))
@@ -54,10 +64,10 @@ levels-fit-spec =
     Inv-loop
     μ-loop
     loop-holds
-    add-word-at
-    mul-word-at
-    add-word-at-2
-    word-at-requires
+    add-word
+    mul-word
+    add-word-2
+    word-requires
     returns
     add-i
     loop-less
