@@ -8,9 +8,9 @@ use Prim.Native.Nat.{ℕ, zero, suc, _+_, _-_, _*_, _/_, _<_, _≤_}
 use native.Mathlib.Nat.{add-zero, zero-add, suc-add, sub-zero}
 use native.Mathlib.Numerals.{add-one}
 use native.Mathlib.Omega.{arith}
-use borrow.Author.Tests.{eq-eqb, ne-eqb, le-leb, lt-leb, not-true, not-false}
-use lib.Dec.{ltb, eqb}
-use lib.ListN.{length, getD, set, take, drop, length-drop, drop-of-length-le}
+use borrow.Author.Tests.{eq-eqb, ne-eqb, lt-ltb, le-ltb, le-leb, lt-leb, not-true, not-false}
+use lib.Dec.{eqb}
+use lib.ListN.{length, getD, set, take, drop, length-set, length-drop, drop-of-length-le}
 use lib.Seq.{drop-cons, take-all, take-nil, getD-take, getD-drop, drop-drop}
 use Rattle.map.specs.declared.refusals.Answer.{Answer}
 use Rattle.map.specs.declared.refusals.Answer.the-variants.{Accepted, Refused}
@@ -20,8 +20,9 @@ use Rattle.map.specs.Refusals.{accepted, openAnswer, opens}
 use Rattle.map.specs.RefusalLaws.{opens-member, opens-bus, opens-pins}
 use Rattle.map.specs.Map.{reservedOf}
 use Rattle.map.specs.Lists.{filled}
-use Rattle.map.specs.ListLaws.{filled-none, filled-more}
+use Rattle.map.specs.ListLaws.{and-right, filled-none, filled-more, filled-length}
 use Rattle.map.specs.Images.{registersOk, resetImage}
+use Rattle.map.specs.ImageLaws.{registers-ok}
 use Rattle.burst.specs.declared.sizes.Sizes.{Sizes}
 use Rattle.burst.specs.declared.sizes.Sizes.the-variants.{Good, Bad}
 use Rattle.burst.specs.Burst.{size16, lengthsFrom, lengths, cutFrom, transactions, sizesOf, headSelect, headAddress, headWrites}
@@ -34,7 +35,7 @@ use Rattle.chip.specs.declared.decode.Transaction.the-variants.{Write, P
 use Rattle.chip.specs.Chip.{chipOf, soundOf, powerLostOf, newChip, atResetOf, feedAnswer, selected, decodeOf, isOn, heard, merged, putByte, isCommand, clearOpens, clearShorts, heardByte, hearByte, hearData, hear, byTransaction, apply, applyAll, feedOf}
 use Rattle.chip.specs.ChipLaws.{data-none, data-reset, data-next, byte-length, apply-length}
 
--- ---- states
+-- ---- chips that are sound, at reset, without power
 
 pub taken : (answer : Answer) → answer ≡ Accepted → accepted answer ≡ true
 taken answer e = ap accepted e
@@ -69,10 +70,25 @@ pub at-reset-is : (m b p : ℕ) (x : Answer) (c : Chip) → x ≡ openAnswer m b
 unfolding atResetOf opens
 at-reset-is m b p x c e q = rw (q, e) refl
 
-pub lost-is : (c : Chip) (rs : List ℕ) → rs ≡ cond (ltb (c .member) 5) (resetImage (c .member)) (c .registers) →
+-- a loss of power, on bytes that are lent
+pub loses : (m : ℕ) (old new : List ℕ) → m < 5 → new ≡ cond (eqb (length old) 908) (resetImage m) old →
+    new ≡ cond (eqb (length old) 908) (powerLostOf (chipOf m 0 0 old) .registers) old
+unfolding powerLostOf
+loses m old new h q = q ∙ rw (lt-ltb m 5 h) refl
+
+pub loses-nothing : (m : ℕ) (old : List ℕ) → 5 ≤ m → old ≡ cond (eqb (length old) 908) (powerLostOf (chipOf m 0 0 old) .registers) old
+unfolding powerLostOf
+loses-nothing m old h = rw (le-ltb m 5 h) (either (eqb (length old) 908))
+  where
+    either : (b : Bool) → old ≡ cond b old old
+    either true = refl
+    either false = refl
+
+pub lost-is : (c : Chip) (rs : List ℕ) → length (c .registers) ≡ 908 →
+    rs ≡ cond (eqb (length (c .registers)) 908) (powerLostOf (chipOf (c .member) 0 0 (c .registers)) .registers) (c .registers) →
     chipOf (c .member) (c .bus) (c .pins) rs ≡ powerLostOf c
 unfolding powerLostOf
-lost-is c rs e = rw e refl
+lost-is c rs h e = ap (chipOf (c .member) (c .bus) (c .pins)) (e ∙ rw (eq-eqb (length (c .registers)) 908 h) refl)
 
 -- ---- heads
 
@@ -111,6 +127,9 @@ zero-none from rs = sym (filled-none (λ a. 0) from rs)
 pub zero-more : (old rs : List ℕ) (from i : ℕ) → rs ≡ filled (λ a. 0) from i old → set rs (from + i) 0 ≡ filled (λ a. 0) from (i + 1) old
 zero-more old rs from i e = ap (λ (x : List ℕ). set x (from + i) 0) e ∙ sym (filled-more (λ a. 0) from i old)
 
+pub cleared-length : (old new : List ℕ) (a v from n : ℕ) → new ≡ filled (λ k. 0) from n (set old a v) → length new ≡ length old
+cleared-length old new a v from n e = ap length e ∙ filled-length (λ k. 0) from n (set old a v) ∙ length-set old a v
+
 pub command-other : (command code a v : ℕ) → (a ≡ command → ⊥) → false ≡ isCommand command code a v
 unfolding isCommand
 command-other command code a v n = rw (ne-eqb a command n) refl
@@ -146,9 +165,9 @@ module _ (m a v : ℕ) (opens shorts : Bool) (old new : List ℕ) where
   unfolding heardByte putByte
   puts-byte mask byte e f d n k q = rw (sym e ∙ f, sym d ∙ n, q, k) refl
 
-pub low-reset : (m a v : ℕ) (reset : Bool) (new : List ℕ) → reset ≡ isCommand 0x0A9 0xFF a v → reset ≡ true → new ≡ resetImage m →
-    (false ≡ not (isCommand 0x0A9 0xFF a v)) × (new ≡ resetImage m)
-low-reset m a v reset new e t q = (rw (sym e ∙ t) refl, q)
+pub low-reset : (m a v : ℕ) (reset : Bool) (old new : List ℕ) → length old ≡ 908 → reset ≡ isCommand 0x0A9 0xFF a v → reset ≡ true →
+    new ≡ cond (eqb (length old) 908) (resetImage m) old → (false ≡ not (isCommand 0x0A9 0xFF a v)) × (new ≡ resetImage m)
+low-reset m a v reset old new h e t q = (rw (sym e ∙ t) refl, q ∙ rw (eq-eqb (length old) 908 h) refl)
 
 module _ (m a v : ℕ) (on reset : Bool) (old : List ℕ) where
   pub low-unheard : (h : Bool) → reset ≡ isCommand 0x0A9 0xFF a v → reset ≡ false → h ≡ heard on a → not h ≡ true →
@@ -364,33 +383,48 @@ module _ (m bus pins : ℕ) (l : List ℕ) (n : ℕ) (old rs : List ℕ) (at i :
 
 -- ---- Feed
 
-pub feeds-unsound : (c : Chip) (l : List ℕ) (sound : Bool) → sound ≡ soundOf c → not sound ≡ true → Refused Unsound ≡ feedAnswer c l
-unfolding feedAnswer
-feeds-unsound c l sound e n = rw (sym e ∙ not-true sound n) refl
+module _ (c : Chip) (l : List ℕ) where
+  -- a refusal changes nothing
+  refused-is : (x : Refusal) → Refused x ≡ feedAnswer c l → c .registers ≡ feedOf c l .chip .registers
+  unfolding feedOf
+  refused-is x e = rw (sym e) refl
 
-pub feeds-bad : (c : Chip) (l : List ℕ) (sound : Bool) (s : Sizes) → sound ≡ soundOf c → not sound ≡ false → s ≡ sizesOf l → s ≡ Bad →
-    Refused ListSizes ≡ feedAnswer c l
-unfolding feedAnswer
-feeds-bad c l sound s e n q b = rw (sym e ∙ not-false sound n, sizes-bad l (sym q ∙ b)) refl
+  -- what holds of the registers that Feed gives back, beside its answer
+  abbrev Feeds : Answer → List ℕ → Type 0
+  Feeds x new = (x ≡ feedAnswer c l) × (new ≡ feedOf c l .chip .registers)
 
-pub feeds-good : (c : Chip) (l : List ℕ) (sound : Bool) (s : Sizes) (n t : ℕ) → sound ≡ soundOf c → not sound ≡ false → s ≡ sizesOf l → s ≡ Good n t →
-    Accepted ≡ feedAnswer c l
-unfolding feedAnswer
-feeds-good c l sound s n t e f q b = rw (sym e ∙ not-false sound f, sizes-good l n t (sym q ∙ b) .good) refl
+  pub feeds-unsound : (sound : Bool) → sound ≡ soundOf c → not sound ≡ true → Feeds (Refused Unsound) (c .registers)
+  unfolding feedAnswer
+  feeds-unsound sound e n = let a : Refused Unsound ≡ feedAnswer c l = rw (sym e ∙ not-true sound n) refl in (a, refused-is Unsound a)
+
+  module _ (sound : Bool) (s : Sizes) (e : sound ≡ soundOf c) (y : not sound ≡ false) (q : s ≡ sizesOf l) where
+    pub feeds-bad : s ≡ Bad → Feeds (Refused ListSizes) (c .registers)
+    unfolding feedAnswer
+    feeds-bad b =
+        let a : Refused ListSizes ≡ feedAnswer c l = rw (sym e ∙ not-false sound y, sizes-bad l (sym q ∙ b)) refl in
+        (a, refused-is ListSizes a)
+
+    -- every transaction was applied
+    pub feeds-all : (n t : ℕ) (new : List ℕ) → s ≡ Good n t →
+        new ≡ applyAll (c .member) (c .bus) (c .pins) (c .registers) (cutFrom l (4 + 2 * n) (lengthsFrom l 4 n)) → Feeds Accepted new
+    unfolding feedOf feedAnswer transactions lengths
+    feeds-all n t new b r =
+        let g = sizes-good l n t (sym q ∙ b) in
+        let a : Accepted ≡ feedAnswer c l = rw (sym e ∙ not-false sound y, g .good) refl in
+        (a, rw (sym a, g .n-is) r)
+
+-- the registers of a sound chip are 908
+pub sound-size : (c : Chip) (sound : Bool) → sound ≡ soundOf c → not sound ≡ false → length (c .registers) ≡ 908
+unfolding soundOf
+sound-size c sound e y =
+    registers-ok (c .member) (c .registers) (and-right (opens (c .member) (c .bus) (c .pins)) _ (sym e ∙ not-false sound y)) .size
 
 pub good-rest : (l : List ℕ) (s : Sizes) (n t : ℕ) → s ≡ sizesOf l → s ≡ Good n t → (n < 65536) × Rest l (4 + 2 * n) (lengthsFrom l 4 n)
 good-rest l s n t q b =
     let g = sizes-good l n t (sym q ∙ b) in
     (g .n-small, rest-all l n t g)
 
--- every transaction was applied
-pub feeds-all : (m bus pins : ℕ) (l : List ℕ) (s : Sizes) (n t : ℕ) (old new : List ℕ) → s ≡ sizesOf l → s ≡ Good n t →
-    new ≡ applyAll m bus pins old (cutFrom l (4 + 2 * n) (lengthsFrom l 4 n)) → new ≡ applyAll m bus pins old (transactions l)
-unfolding transactions lengths
-feeds-all m bus pins l s n t old new q b e = rw (sizes-good l n t (sym q ∙ b) .n-is) e
-
-pub fed-is : (c : Chip) (l : List ℕ) (x : Answer) (rs : List ℕ) → x ≡ feedAnswer c l →
-    rs ≡ cond (accepted x) (applyAll (c .member) (c .bus) (c .pins) (c .registers) (transactions l)) (c .registers) →
+pub fed-is : (c : Chip) (l : List ℕ) (x : Answer) (rs : List ℕ) → x ≡ feedAnswer c l → rs ≡ feedOf c l .chip .registers →
     _≡_ {A = Fed} (record { answer = x; chip = chipOf (c .member) (c .bus) (c .pins) rs }) (feedOf c l)
 unfolding feedOf
 fed-is c l x rs e q = rw (q, e) refl

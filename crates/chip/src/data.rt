@@ -17,7 +17,7 @@ fn merge(mask: u8, old: u8, value: u8) -> u8
     (old & mask) | (value & (255 - mask))
 }
 
-fn zero_from(registers: &mut [u8; 908], from: usize, n: usize)
+fn zero_from(registers: &mut [u8], from: usize, n: usize)
     requires { ⌜ (length (now registers) ≡ 908) × (from + n ≤ 908) ⌝ }
     ensures { λ _. ⌜ now (registers .exit) ≡ filled (λ a. 0) from n (now (registers .entry)) ⌝ }
 {
@@ -28,29 +28,22 @@ fn zero_from(registers: &mut [u8; 908], from: usize, n: usize)
     }
 }
 
-fn clear_opens(registers: &mut [u8; 908])
+fn clear_opens(registers: &mut [u8])
     requires { ⌜ length (now registers) ≡ 908 ⌝ }
     ensures { λ _. ⌜ now (registers .exit) ≡ clearOpens (now (registers .entry)) ⌝ }
 {
-    let state = registers[0x064];
-    registers[0x064] = state & 0xFD;
+    let faults = registers[0x064];
+    registers[0x064] = faults & 0xFD;
     zero_from(registers, 0x065, 33);
 }
 
-fn clear_shorts(registers: &mut [u8; 908])
+fn clear_shorts(registers: &mut [u8])
     requires { ⌜ length (now registers) ≡ 908 ⌝ }
     ensures { λ _. ⌜ now (registers .exit) ≡ clearShorts (now (registers .entry)) ⌝ }
 {
-    let state = registers[0x064];
-    registers[0x064] = state & 0xFE;
+    let faults = registers[0x064];
+    registers[0x064] = faults & 0xFE;
     zero_from(registers, 0x086, 33);
-}
-
-fn reset(member: usize, registers: &mut [u8; 908])
-    ensures { λ _. ⌜ now (registers .exit) ≡ resetImage member ⌝ }
-{
-    let image = images::reset_image(member);
-    *registers = image;
 }
 
 fn hears(on: bool, address: usize) -> bool
@@ -80,7 +73,7 @@ fn put_low(
     member: usize,
     lines: usize,
     columns: u32,
-    registers: &mut [u8; 908],
+    registers: &mut [u8],
     address: usize,
     value: u8,
 )
@@ -105,7 +98,7 @@ fn hear_low(
     lines: usize,
     columns: u32,
     on: bool,
-    registers: &mut [u8; 908],
+    registers: &mut [u8],
     address: usize,
     value: u8,
 ) -> bool
@@ -114,7 +107,7 @@ fn hear_low(
     ensures stores { λ r. ⌜ now (registers .exit) ≡ cond r (hearByte member on address value (now (registers .entry))) (resetImage member) ⌝ }
 {
     if commands(0x0A9, 0xFF, address, value) {
-        reset(member, registers);
+        images::put_reset(member, registers);
         return false;
     }
     if !hears(on, address) {
@@ -129,7 +122,7 @@ fn hear_dots(
     member: usize,
     lines: usize,
     columns: u32,
-    registers: &mut [u8; 908],
+    registers: &mut [u8],
     first: usize,
     bytes: &[u8],
 )
@@ -153,7 +146,7 @@ pub(crate) fn hear(
     member: usize,
     lines: usize,
     columns: u32,
-    registers: &mut [u8; 908],
+    registers: &mut [u8],
     start: usize,
     bytes: &[u8],
 )

@@ -1,19 +1,14 @@
-// A burst list, as a chip takes it.
+// The transactions of a burst list, as a chip takes them.
 ghost use mathlib.Core.Path.{_≡_};
-ghost use mathlib.Core.Bool.{cond};
 ghost use Prim.Native.Nat.{_+_, _*_, _<_, _≤_};
 ghost use lib.ListN.{length, take, drop};
 ghost use Rattle.map.specs.Map.{linesOf, columnsOf};
-ghost use Rattle.map.specs.Refusals.{accepted};
-ghost use Rattle.burst.specs.Burst.{lengthsFrom, cutFrom, transactions};
+ghost use Rattle.burst.specs.Burst.{lengthsFrom, cutFrom};
 ghost use Rattle.burst.specs.BurstLaws.{Rest};
-ghost use Rattle.chip.specs.Chip.{chipOf, soundOf, feedAnswer, apply, applyAll};
+ghost use Rattle.chip.specs.Chip.{apply, applyAll};
 use crate::data;
 use crate::decode::Transaction;
 use crate::decode::decode;
-use burst::Sizes;
-use map::Answer;
-use map::Refusal;
 
 // The transaction of so many bytes at a place of the list.
 fn apply_at(
@@ -22,7 +17,7 @@ fn apply_at(
     columns: u32,
     bus: u8,
     pins: u8,
-    registers: &mut [u8; 908],
+    registers: &mut [u8],
     list: &[u8],
     at: usize,
     size: usize,
@@ -42,7 +37,14 @@ fn apply_at(
 }
 
 // Every transaction of a list with good sizes, whose n is at hand.
-fn apply_all(member: usize, bus: u8, pins: u8, registers: &mut [u8; 908], list: &[u8], n: usize)
+pub(crate) fn apply_all(
+    member: usize,
+    bus: u8,
+    pins: u8,
+    registers: &mut [u8],
+    list: &[u8],
+    n: usize,
+)
     requires { ⌜ (length (now registers) ≡ 908) × (n < 65536) × Rest (now list) (4 + 2 * n) (lengthsFrom (now list) 4 n) ⌝ }
     ensures { λ _. ⌜ now (registers .exit) ≡ applyAll member bus pins (now (registers .entry)) (cutFrom (now (list .entry)) (4 + 2 * n) (lengthsFrom (now (list .entry)) 4 n)) ⌝ }
 {
@@ -56,28 +58,4 @@ fn apply_all(member: usize, bus: u8, pins: u8, registers: &mut [u8; 908], list: 
         at += size;
         i += 1;
     }
-}
-
-// The refusals in their order, then every transaction. `sound` says whether the chip is.
-pub(crate) fn feed(
-    sound: bool,
-    member: usize,
-    bus: u8,
-    pins: u8,
-    registers: &mut [u8; 908],
-    list: &[u8],
-) -> Answer
-    requires { ⌜ (length (now registers) ≡ 908) × (sound ≡ soundOf (chipOf member bus pins (now registers))) ⌝ }
-    ensures answers { λ r. ⌜ r ≡ feedAnswer (chipOf member bus pins (now (registers .entry))) (now (list .entry)) ⌝ }
-    ensures stores { λ r. ⌜ now (registers .exit) ≡ cond (accepted r) (applyAll member bus pins (now (registers .entry)) (transactions (now (list .entry)))) (now (registers .entry)) ⌝ }
-{
-    if !sound {
-        return Answer::Refused(Refusal::Unsound);
-    }
-    let sizes = burst::read_sizes(list);
-    let Sizes::Good { n, t: _ } = sizes else {
-        return Answer::Refused(Refusal::ListSizes);
-    };
-    apply_all(member, bus, pins, registers, list, n);
-    Answer::Accepted
 }

@@ -5,17 +5,14 @@ use borrow.Author.Needs.{needs}
 use Rattle.chip.proofs.feed.Statement.{statement}
 use Rattle.chip.proofs.feed.Tie as tie
 
-sound-requires : tie.Need-sound-requires
-sound-requires c κs = search needs
+slice-aggregate-feed-registers : tie.Need-slice-aggregate-feed-registers
+slice-aggregate-feed-registers c = search needs
 
-cast-feed : tie.Need-cast-feed
-cast-feed c = search needs
-
-feed-requires : tie.Need-feed-requires
-feed-requires c κs = search needs
+feed-registers-requires : tie.Need-feed-registers-requires
+feed-registers-requires c κs = search needs
 
 returns : tie.Need-returns
-returns c = fed-is _ _ _ _ (c .feed .ensures .0) (c .feed .ensures .1)
+returns c = fed-is _ _ _ _ (c .before .feed-registers .ensures .0) (c .before .feed-registers .ensures .1)
 
 pub feed-spec : {M : Type 1} → statement M
-feed-spec = tie.close (tie.spec sound-requires cast-feed feed-requires returns)
+feed-spec = tie.close (tie.spec slice-aggregate-feed-registers feed-registers-requires returns)

@@ -5,14 +5,14 @@ use borrow.Author.Needs.{needs}
 use Rattle.chip.proofs.power_lost.Statement.{statement}
 use Rattle.chip.proofs.power_lost.Tie as tie
 
-cast-lost : tie.Need-cast-lost
-cast-lost c = search needs
+slice-aggregate-lose-power : tie.Need-slice-aggregate-lose-power
+slice-aggregate-lose-power c = search needs
 
-lost-requires : tie.Need-lost-requires
-lost-requires c κs = search needs
+lose-power-requires : tie.Need-lose-power-requires
+lose-power-requires c κs = search needs
 
 returns : tie.Need-returns
-returns c = lost-is _ _ (c .lost .ensures)
+returns c = lost-is _ _ (search needs) (c .before .lose-power .ensures)
 
 pub power-lost-spec : {M : Type 1} → statement M
-power-lost-spec = tie.close (tie.spec cast-lost lost-requires returns)
+power-lost-spec = tie.close (tie.spec slice-aggregate-lose-power lose-power-requires returns)

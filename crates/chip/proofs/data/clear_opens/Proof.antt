@@ -1,23 +1,29 @@
 -- `chip::data::clear_opens` meets its contract.
 -- Assumes nothing.
 use Rattle.chip.specs.Chip.{clearOpens}
+use Rattle.chip.proofs.Steps.{cleared-length}
 use borrow.Author.Needs.{needs}
 use Rattle.chip.proofs.data.clear_opens.Statement.{statement}
 use Rattle.chip.proofs.data.clear_opens.Tie as tie
 
-element-copy-out-state : tie.Need-element-copy-out-state
-element-copy-out-state c = search needs
+slice-read-faults : tie.Need-slice-read-faults
+slice-read-faults c = search needs
 
-element-write-registers : tie.Need-element-write-registers
-element-write-registers c = search needs
+slice-write-registers : tie.Need-slice-write-registers
+slice-write-registers c = search needs
 
 zero-from-requires : tie.Need-zero-from-requires
 zero-from-requires c κs = search needs
 
+same-length : tie.Need-same-length
+same-length c =
+    let cleared = c .before .before in
+    cleared-length (cleared .before .before .before .before .args .registers .now) _ _ _ _ _ (cleared .zero-from .ensures)
+
 returns : tie.Need-returns
 unfolding clearOpens
-returns c = c .zero-from .ensures
+returns c = c .before .before .zero-from .ensures
 
 pub clear-opens-spec : {M : Type 1} → statement M
 clear-opens-spec =
-    tie.close (tie.spec element-copy-out-state element-write-registers zero-from-requires returns)
+    tie.close (tie.spec slice-read-faults slice-write-registers zero-from-requires same-length returns)

@@ -16,19 +16,24 @@ abbrev μ-loop : tie.MeasureT-loop
 μ-loop member lines columns registers₀ first bytes i₀ registers i = length bytes - i
 
 loop-holds : tie.Need-loop-holds Inv-loop μ-loop
-loop-holds c = heard-none _ _ _ _ _ (c .before .pre .0)
+loop-holds c = heard-none _ _ _ _ _ (c .before .before .pre .0)
 
 add-address : tie.Need-add-address Inv-loop μ-loop
 add-address c = omega arith
 
+same-length : tie.Need-same-length Inv-loop μ-loop
+same-length c = omega (arith, c .before .before .loop .inv .size)
+
 returns : tie.Need-returns Inv-loop μ-loop
 returns c = heard-past _ _ _ _ _ _ _ (c .before .before .loop .inv) (omega arith)
 
-element-copy-out-old : tie.Need-element-copy-out-old Inv-loop μ-loop
-element-copy-out-old c = omega arith
+slice-read-old : tie.Need-slice-read-old Inv-loop μ-loop
+slice-read-old c = omega (arith, c .before .before .before .loop .inv .size)
 
 dot-mask-requires : tie.Need-dot-mask-requires Inv-loop μ-loop
-dot-mask-requires c κs = (c .before .before .before .before .before .pre .1, c .before .before .before .before .before .pre .2, omega arith)
+dot-mask-requires c κs =
+    let start = c .before .before .before .before .before .before in
+    (start .pre .1, start .pre .2, omega arith)
 
 shared-slice-read-merge : tie.Need-shared-slice-read-merge Inv-loop μ-loop
 shared-slice-read-merge c = omega arith
@@ -36,8 +41,8 @@ shared-slice-read-merge c = omega arith
 merge-requires : tie.Need-merge-requires Inv-loop μ-loop
 merge-requires c κs = search needs
 
-element-write-registers : tie.Need-element-write-registers Inv-loop μ-loop
-element-write-registers c = omega arith
+slice-write-registers : tie.Need-slice-write-registers Inv-loop μ-loop
+slice-write-registers c = omega (arith, c .before .before .before .before .before .before .loop .inv .size)
 
 add-i : tie.Need-add-i Inv-loop μ-loop
 add-i c = omega arith
@@ -50,6 +55,9 @@ loop-again c =
     dots-more _ _ _ _ _ _ (c .before .before .dot-mask .result) _ (omega arith) (omega arith) (omega arith)
     (c .before .before .before .before .before .before .loop .inv) (c .before .before .dot-mask .ensures) (c .merge .ensures)
 
+same-length-2 : tie.Need-same-length-2 Inv-loop μ-loop
+same-length-2 c = omega (arith, c .before .loop .inv .size)
+
 returns-2 : tie.Need-returns-2 Inv-loop μ-loop
 returns-2 c = heard-all _ _ _ _ _ _ _ (c .before .loop .inv) (c .loop-test .left)
 
@@ -61,13 +69,15 @@ hear-dots-spec =
     μ-loop
     loop-holds
     add-address
+    same-length
     returns
-    element-copy-out-old
+    slice-read-old
     dot-mask-requires
     shared-slice-read-merge
     merge-requires
-    element-write-registers
+    slice-write-registers
     add-i
     loop-less
     loop-again
+    same-length-2
     returns-2)

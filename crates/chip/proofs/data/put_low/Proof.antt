@@ -12,8 +12,13 @@ commands-requires c κs = search needs
 clear-opens-requires : tie.Need-clear-opens-requires
 clear-opens-requires c κs = search needs
 
+same-length : tie.Need-same-length
+same-length c = search needs
+
 returns : tie.Need-returns
-returns c = puts-opens _ _ _ _ false _ _ (c .before .before .before .commands .ensures) (c .before .before .if1 .taken) (c .clear-opens .ensures)
+returns c =
+    let tested = c .before .before .before .before in
+    puts-opens _ _ _ _ false _ _ (tested .before .commands .ensures) (tested .if1 .taken) (c .before .before .clear-opens .ensures)
 
 commands-requires-2 : tie.Need-commands-requires-2
 commands-requires-2 c κs = search needs
@@ -21,13 +26,18 @@ commands-requires-2 c κs = search needs
 clear-shorts-requires : tie.Need-clear-shorts-requires
 clear-shorts-requires c κs = search needs
 
+same-length-2 : tie.Need-same-length-2
+same-length-2 c = search needs
+
 returns-2 : tie.Need-returns-2
 returns-2 c =
-    puts-shorts _ _ _ _ _ _ _ (c .before .before .before .before .before .commands .ensures) (c .before .before .before .before .if1 .left)
-    (c .before .before .before .commands2 .ensures) (c .before .before .if2 .taken) (c .clear-shorts .ensures)
+    let second = c .before .before .before .before in
+    let first = second .before .before in
+    puts-shorts _ _ _ _ _ _ _ (first .before .commands .ensures) (first .if1 .left) (second .before .commands2 .ensures) (second .if2 .taken)
+    (c .before .before .clear-shorts .ensures)
 
-element-copy-out-old : tie.Need-element-copy-out-old
-element-copy-out-old c = search needs
+slice-read-old : tie.Need-slice-read-old
+slice-read-old c = search needs
 
 low-mask-requires : tie.Need-low-mask-requires
 low-mask-requires c κs = search needs
@@ -35,15 +45,18 @@ low-mask-requires c κs = search needs
 merge-requires : tie.Need-merge-requires
 merge-requires c κs = search needs
 
-element-write-registers : tie.Need-element-write-registers
-element-write-registers c = search needs
+slice-write-registers : tie.Need-slice-write-registers
+slice-write-registers c = search needs
+
+same-length-3 : tie.Need-same-length-3
+same-length-3 c = search needs
 
 returns-3 : tie.Need-returns-3
 returns-3 c =
-    let s = c .before .before .before .before .before .before .before in
-    puts-byte _ _ _ _ _ _ (s .args .registers .now) (c .before .low-mask .result) _
-    (c .before .before .before .before .before .before .commands .ensures) (c .before .before .before .before .before .if1 .left)
-    (c .before .before .before .before .commands2 .ensures) (c .before .before .before .if2 .left) (c .before .low-mask .ensures) (c .merge .ensures)
+    let second = c .before .before .before in
+    let first = second .before .before in
+    puts-byte _ _ _ _ _ _ (first .before .before .before .args .registers .now) (c .before .low-mask .result) _ (first .before .commands .ensures) (first .if1 .left)
+    (second .before .commands2 .ensures) (second .if2 .left) (c .before .low-mask .ensures) (c .merge .ensures)
 
 pub put-low-spec : {M : Type 1} → statement M
 put-low-spec =
@@ -51,12 +64,15 @@ put-low-spec =
     (tie.spec
     commands-requires
     clear-opens-requires
+    same-length
     returns
     commands-requires-2
     clear-shorts-requires
+    same-length-2
     returns-2
-    element-copy-out-old
+    slice-read-old
     low-mask-requires
     merge-requires
-    element-write-registers
+    slice-write-registers
+    same-length-3
     returns-3)

@@ -21,8 +21,8 @@ loop-holds c = (omega arith, c .pre .0, zero-none _ _)
 add-registers : tie.Need-add-registers Inv-loop μ-loop
 add-registers c = omega arith
 
-element-write-registers : tie.Need-element-write-registers Inv-loop μ-loop
-element-write-registers c = omega arith
+slice-write-registers : tie.Need-slice-write-registers Inv-loop μ-loop
+slice-write-registers c = omega arith
 
 add-i : tie.Need-add-i Inv-loop μ-loop
 add-i c = omega arith
@@ -32,6 +32,9 @@ loop-less c = omega arith
 
 loop-again : tie.Need-loop-again Inv-loop μ-loop
 loop-again c = (omega arith, simp length-set (c .before .loop .inv .1), zero-more _ _ _ _ (c .before .loop .inv .2))
+
+same-length : tie.Need-same-length Inv-loop μ-loop
+same-length c = omega arith
 
 returns : tie.Need-returns Inv-loop μ-loop
 returns c = let e : c .before .loop .i ≡ c .before .before .args .n = omega arith in rw e at (c .before .loop .inv .2)
@@ -44,8 +47,9 @@ zero-from-spec =
     μ-loop
     loop-holds
     add-registers
-    element-write-registers
+    slice-write-registers
     add-i
     loop-less
     loop-again
+    same-length
     returns)

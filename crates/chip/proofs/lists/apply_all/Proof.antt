@@ -26,7 +26,9 @@ add-at : tie.Need-add-at Inv-loop μ-loop
 add-at c = omega arith
 
 loop-holds : tie.Need-loop-holds Inv-loop μ-loop
-loop-holds c = applied-none _ _ _ _ _ _ (c .before .before .before .pre .0) (c .before .before .before .pre .2)
+loop-holds c =
+    let start = c .before .before .before .before in
+    applied-none _ _ _ _ _ _ (start .pre .0) (start .pre .2)
 
 mul-size-at : tie.Need-mul-size-at Inv-loop μ-loop
 mul-size-at c = omega arith
@@ -39,12 +41,14 @@ size-at-requires c κs = search needs
 
 apply-at-requires : tie.Need-apply-at-requires Inv-loop μ-loop
 apply-at-requires c κs =
-    let t = applied-next _ _ _ _ _ _ _ _ _ (c .before .before .before .loop .inv) _ (c .before .before .loop-test .taken) (c .before .size-at .ensures) in
-    (c .before .before .before .loop .inv .size, c .before .before .before .before .before .lines .ensures .0, c .before .before .before .before .columns .ensures, t .0, t .1)
+    let turn = c .before .before .before in
+    let t = applied-next _ _ _ _ _ _ _ _ _ (turn .loop .inv) _ (c .before .before .loop-test .taken) (c .before .size-at .ensures) in
+    (turn .loop .inv .size, turn .before .before .lines .ensures .0, turn .before .columns .ensures, t .0, t .1)
 
 add-at-2 : tie.Need-add-at-2 Inv-loop μ-loop
 add-at-2 c =
-    let t = applied-next _ _ _ _ _ _ _ _ _ (c .before .before .before .before .loop .inv) _ (c .before .before .before .loop-test .taken) (c .before .before .size-at .ensures) in
+    let read = c .before .before .before .before in
+    let t = applied-next _ _ _ _ _ _ _ _ _ (read .before .before .loop .inv) _ (read .before .loop-test .taken) (read .size-at .ensures) in
     omega (arith, t .1)
 
 add-i : tie.Need-add-i Inv-loop μ-loop
@@ -55,8 +59,12 @@ loop-less c = omega arith
 
 loop-again : tie.Need-loop-again Inv-loop μ-loop
 loop-again c =
-    applied-more _ _ _ _ _ _ _ _ _ (c .before .before .before .before .loop .inv) _ _ (c .before .before .before .loop-test .taken)
-    (c .before .before .size-at .ensures) (c .apply-at .ensures)
+    let read = c .before .before .before .before in
+    applied-more _ _ _ _ _ _ _ _ _ (read .before .before .loop .inv) _ _ (read .before .loop-test .taken) (read .size-at .ensures)
+    (c .before .before .apply-at .ensures)
+
+same-length : tie.Need-same-length Inv-loop μ-loop
+same-length c = omega (arith, c .before .loop .inv .size)
 
 returns : tie.Need-returns Inv-loop μ-loop
 returns c = applied-all _ _ _ _ _ _ _ _ _ (c .before .loop .inv) (c .loop-test .left)
@@ -80,4 +88,5 @@ apply-all-spec =
     add-i
     loop-less
     loop-again
+    same-length
     returns)

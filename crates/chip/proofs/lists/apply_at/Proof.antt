@@ -37,25 +37,28 @@ part-hear-end c = search needs
 
 hear-requires : tie.Need-hear-requires
 hear-requires c κs =
-    let s = c .before .before .before .before .before .before .before .before .before in (
-      s .pre .0,
-      s .pre .1,
-      s .pre .2,
-      write-small _ _ _ _ _ _ (c .before .before .before .before .before .decode .ensures) (c .before .before .before .transaction .given .1),
-    )
+    let decoded = c .before .before .before .before .before in
+    let start = decoded .before .before .before .before .before in
+    (start .pre .0, start .pre .1, start .pre .2, write-small _ _ _ _ _ _ (decoded .decode .ensures) (c .before .before .before .transaction .given .1))
 
 enum-told : tie.Need-enum-told
 enum-told c = search needs
 
+same-length : tie.Need-same-length
+same-length c = search needs
+
 returns : tie.Need-returns
 returns c =
-    let s = c .before .before .before .before .before .before .before .before .before .before in
-    applies-write _ _ _ _ _ _ _ (s .pre .3) _ _ _ (c .before .before .before .before .before .before .decode .ensures) (c .before .before .before .before .transaction .given .1) (c .hear .ensures)
+    let written = c .before .before .before .before .before .before in
+    let decoded = written .before .before in
+    let start = decoded .before .before .before .before .before in
+    applies-write _ _ _ _ _ _ _ (start .pre .3) _ _ _ (decoded .decode .ensures) (written .transaction .given .1) (c .before .before .hear .ensures)
 
 returns-2 : tie.Need-returns-2
 returns-2 c =
-    let s = c .before .before .before .before .before .before in
-    applies-none _ _ _ (s .args .at) _ (s .args .list .now) _ (s .pre .3) _ (c .before .before .decode .ensures) (c .enum-told .given .1)
+    let decoded = c .before .before in
+    let start = decoded .before .before .before .before .before in
+    applies-none _ _ _ (start .args .at) _ (start .args .list .now) _ (start .pre .3) _ (decoded .decode .ensures) (c .enum-told .given .1)
 
 pub apply-at-spec : {M : Type 1} → statement M
 apply-at-spec =
@@ -73,5 +76,6 @@ apply-at-spec =
     part-hear-end
     hear-requires
     enum-told
+    same-length
     returns
     returns-2)

@@ -2,9 +2,7 @@
 ghost use mathlib.Core.Path.{_≡_};
 ghost use mathlib.Core.Bool.{true, cond};
 ghost use Prim.Native.Nat.{_<_};
-ghost use lib.Dec.{ltb};
 ghost use Rattle.map.specs.Refusals.{accepted};
-ghost use Rattle.map.specs.Images.{resetImage};
 ghost use Rattle.chip.specs.Chip.{chipOf, soundOf, newChip};
 use crate::Chip;
 use map::Answer;
@@ -40,14 +38,4 @@ pub(crate) fn opened(answer: Answer, member: usize, bus: usize, pins: usize) -> 
         return new_chip(0, 0, 0);
     };
     new_chip(member, bus, pins)
-}
-
-// The registers after a loss of power.
-pub(crate) fn lost(member: usize, registers: [u8; 908]) -> [u8; 908]
-    ensures { λ r. ⌜ r ≡ cond (ltb member 5) (resetImage member) registers ⌝ }
-{
-    if 4 < member {
-        return registers;
-    }
-    images::reset_image(member)
 }

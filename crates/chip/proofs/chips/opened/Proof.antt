@@ -1,9 +1,9 @@
--- `chip::states::opened` meets its contract.
+-- `chip::chips::opened` meets its contract.
 -- Assumes nothing.
 use Rattle.chip.proofs.Steps.{taken, chosen-new, chosen-first}
 use borrow.Author.Needs.{needs}
-use Rattle.chip.proofs.states.opened.Statement.{statement}
-use Rattle.chip.proofs.states.opened.Tie as tie
+use Rattle.chip.proofs.chips.opened.Statement.{statement}
+use Rattle.chip.proofs.chips.opened.Tie as tie
 
 enum-told : tie.Need-enum-told
 enum-told c = search needs

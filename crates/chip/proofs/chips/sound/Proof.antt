@@ -1,9 +1,9 @@
--- `chip::states::sound` meets its contract.
+-- `chip::chips::sound` meets its contract.
 -- Assumes nothing.
 use Rattle.chip.proofs.Steps.{not-opened, registers-decide}
 use borrow.Author.Needs.{needs}
-use Rattle.chip.proofs.states.sound.Statement.{statement}
-use Rattle.chip.proofs.states.sound.Tie as tie
+use Rattle.chip.proofs.chips.sound.Statement.{statement}
+use Rattle.chip.proofs.chips.sound.Tie as tie
 
 open-answer-requires : tie.Need-open-answer-requires
 open-answer-requires c κs = search needs

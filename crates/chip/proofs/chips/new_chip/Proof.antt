@@ -1,9 +1,9 @@
--- `chip::states::new_chip` meets its contract.
+-- `chip::chips::new_chip` meets its contract.
 -- Assumes nothing.
 use Rattle.chip.proofs.Steps.{new-is}
 use borrow.Author.Needs.{needs}
-use Rattle.chip.proofs.states.new_chip.Statement.{statement}
-use Rattle.chip.proofs.states.new_chip.Tie as tie
+use Rattle.chip.proofs.chips.new_chip.Statement.{statement}
+use Rattle.chip.proofs.chips.new_chip.Tie as tie
 
 reset-image-requires : tie.Need-reset-image-requires
 reset-image-requires c κs = search needs
