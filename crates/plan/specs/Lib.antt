@@ -5,7 +5,7 @@ pub mod WriteLaws
 pub mod Weight
 pub mod PlanLaws
 pub mod ScanLaws
-pub mod RunLaws
+pub mod NextLaws
 pub mod Cheapest
 pub mod Update
 pub mod PlanExamples
