@@ -1,157 +1,117 @@
--- The invariants of the loops that write the lengths and the transactions.
+-- The invariant of the loop that writes the lengths and the transactions.
 -- Assumes nothing.
-use mathlib.Core.Path.{_≡_, refl, sym, ap, _∙_}
-use mathlib.Core.List.{List, [], _++_}
+use mathlib.Core.Path.{_≡_, refl, sym, ap, ap₂, _∙_}
+use mathlib.Core.List.{List, [], _∷_, _++_}
 use Prim.Native.Nat.{ℕ, _+_, _-_, _*_, _≤_, _<_}
 use native.Mathlib.Omega.{arith}
-use lib.ListN.{length, take, drop, length-append}
+use lib.ListN.{length, take, drop}
 use lib.Seq.{sets, length-sets}
 use Rattle.burst.specs.Burst.{sizeBytes, sizesBytes, putSize, transactionOf}
+use Rattle.plan.specs.Lists.{all-append}
 use Rattle.plan.specs.Plan.{Write, cost, plan}
 use Rattle.plan.specs.WriteLaws.{cost-append}
 use Rattle.plan.specs.Update.{dataOf}
-use Rattle.plan.specs.RunLaws.{one}
-use Rattle.update.specs.Runs.{marksOf, Pair, FirstDiffering, RunEnd, transactionLengths, transactionBytes, storeWrites}
-use Rattle.update.proofs.Turns.{Going, going-start, going-more, going-taken, going-cost}
-use Rattle.update.proofs.Bytes.{sets-append, lengths-append, sizes-length, bytes-more, transaction-length, stores-append, part-written}
+use Rattle.plan.specs.NextLaws.{one}
+use Rattle.host.specs.declared.Record.{Record}
+use Rattle.writes.specs.Marks.{marksOf}
+use Rattle.writes.specs.Found.{Placed, NextWrite}
+use Rattle.writes.specs.FoundLaws.{Going, going-start, going-more, going-taken}
+use Rattle.writes.specs.Written.{transactionLengths, transactionBytes, storeWrites}
+use Rattle.writes.specs.WrittenLaws.{Inside, sets-behind, sets-comm, lengths-append, lengths-size, bytes-append, bytes-one, bytes-size, stores-append}
+use Rattle.update.specs.Pieces.{planned}
 
-module _ (m : ℕ) (settings image : List ℕ) where
-  -- the length of the next write's transaction, as the code has it
-  length-of : (start end : ℕ) → end - start + 2 ≡ 2 + (end - start)
-  length-of start end = omega arith
-
-  -- ---- lengths
-
-  pub record Lengthened (old : List ℕ) (at i from : ℕ) (buffer : List ℕ) : Type 0 where
+module _ (r : Record) where
+  -- i writes are sent: their lengths stand at p and on, their transactions at q and on
+  pub record Written (old before : List ℕ) (p q i from at : ℕ) (buffer image : List ℕ) : Type 0 where
     pub done : List Write
-    pub going : Going m settings image i from done
+    pub going : Going (marksOf r) i from done
     pub size : length buffer ≡ length old
-    pub written : buffer ≡ sets old at (sizesBytes (transactionLengths done))
+    pub image-size : length image ≡ length before
+    pub inside : Inside (r .settings) done
+    pub reached : at ≡ q + cost done
+    pub small : cost done ≤ 3 * from
+    pub written : buffer ≡ sets (sets old p (sizesBytes (transactionLengths done))) q (transactionBytes (r .header) (r .settings) done)
+    pub stored : image ≡ storeWrites (r .settings) done before
 
-  pub lengthened-start : (old : List ℕ) (at : ℕ) → Lengthened old at 0 1 old
-  lengthened-start old at = record { done = []; going = going-start m settings image; size = refl; written = refl }
-
-  pub lengthened-more : Pair m settings image → (old buffer new : List ℕ) (at i from start end : ℕ) → Lengthened old at i from buffer →
-      FirstDiffering settings image from start → start < 908 → RunEnd m settings image (start + 1) end →
-      new ≡ putSize buffer (at + 2 * i) (end - start + 2) → Lengthened old at (i + 1) end new
-  unfolding putSize
-  lengthened-more pair old buffer new at i from start end g f u r e = record {
-    done = g .done ++ one start end;
-    going = going-more m settings image pair i from start end (g .done) (g .going) f u r;
-    size = ap length e ∙ length-sets buffer (at + 2 * i) (sizeBytes (end - start + 2)) ∙ g .size;
-    written =
-        e
-        ∙ ap (λ (l : List ℕ). sets l (at + 2 * i) (sizeBytes (end - start + 2))) (g .written)
-        ∙ ap (λ (k : ℕ). sets (sets old at (sizesBytes (transactionLengths (g .done)))) k (sizeBytes (end - start + 2))) place
-        ∙ sets-append (sizesBytes (transactionLengths (g .done))) (sizeBytes (end - start + 2)) old at
-        ∙ ap (λ (k : ℕ). sets old at (sizesBytes (transactionLengths (g .done)) ++ sizeBytes k)) (length-of start end)
-        ∙ ap (λ (l : List ℕ). sets old at l) (sym (lengths-append (g .done) (one start end)));
+  pub written-start : (old before : List ℕ) (p q : ℕ) → Written old before p q 0 1 q old before
+  written-start old before p q = record {
+    done = [];
+    going = going-start (marksOf r) refl;
+    size = refl;
+    image-size = refl;
+    inside = tt;
+    reached = omega arith;
+    small = omega arith;
+    written = refl;
+    stored = refl;
   }
-    where
-      place : at + 2 * i ≡ at + length (sizesBytes (transactionLengths (g .done)))
-      place = omega (arith, sizes-length (g .done), g .going .count)
 
-  pub lengthened-done : (old buffer : List ℕ) (at i from writes : ℕ) → i ≡ writes → Lengthened old at i from buffer →
-      buffer ≡ sets old at (sizesBytes (transactionLengths (take writes (plan (marksOf m settings image) 908))))
-  lengthened-done old buffer at i from writes e g =
-      g .written ∙ ap (λ (ws : List Write). sets old at (sizesBytes (transactionLengths ws))) (sym (going-taken m settings image i from (g .done) (g .going)) ∙ ap (λ (k : ℕ). take k (plan (marksOf m settings image) 908)) e)
+  module _ (whole : length (r .settings) ≡ 908) (old before buffer image : List ℕ) (first n i k from at start end : ℕ)
+      (g : Written old before (4 + 2 * first) (4 + 2 * n + 3 * first) k from at buffer image) (index : i ≡ first + k) (more : i < n)
+      (u : start < 908) (placed : Placed from start end) (next : NextWrite (marksOf r) from start end) where
+    abbrev w : Write
+    w = record { start = start; len = end - start }
 
-  -- ---- transactions
+    abbrev transaction : List ℕ
+    transaction = transactionOf (r .header .bus) (r .header .pins) (dataOf (r .settings) w)
 
-  module _ (bus pins : ℕ) where
-    pub record Written (old first : List ℕ) (place i from at : ℕ) (buffer taken : List ℕ) : Type 0 where
-      pub done : List Write
-      pub going : Going m settings image i from done
-      pub size : length buffer ≡ length old
-      pub image-size : length taken ≡ 908
-      pub reached : at ≡ place + cost done
-      pub long : length (transactionBytes bus pins settings done) ≡ cost done
-      pub written : buffer ≡ sets old place (transactionBytes bus pins settings done)
-      pub stored : taken ≡ storeWrites settings done first
+    -- one more length
+    length-put : (mid : List ℕ) → mid ≡ putSize buffer (4 + 2 * i) (end - start + 2) →
+        mid
+        ≡ sets (sets old (4 + 2 * first) (sizesBytes (transactionLengths (g .done ++ one start end)))) (4 + 2 * n + 3 * first)
+        (transactionBytes (r .header) (r .settings) (g .done))
+    unfolding putSize
+    length-put mid e =
+        let p : ℕ = 4 + 2 * first in
+        let q : ℕ = 4 + 2 * n + 3 * first in
+        let lengths : List ℕ = sizesBytes (transactionLengths (g .done)) in
+        let bytes : List ℕ = transactionBytes (r .header) (r .settings) (g .done) in
+        let one-size : end - start + 2 ≡ 2 + (end - start) = omega arith in
+        let place : 4 + 2 * i ≡ p + length lengths = omega (arith, lengths-size (g .done), g .going .count, index) in
+        let all : lengths ++ sizeBytes (end - start + 2) ≡ sizesBytes (transactionLengths (g .done ++ one start end)) =
+        ap (λ (k : ℕ). lengths ++ sizeBytes k) one-size ∙ sym (lengths-append (g .done) (one start end)) in
+        e
+        ∙ ap (λ (l : List ℕ). sets l (4 + 2 * i) (sizeBytes (end - start + 2))) (g .written)
+        ∙ sym (sets-comm (sizeBytes (end - start + 2)) bytes (sets old p lengths) (4 + 2 * i) q (omega arith))
+        ∙ ap (λ (l : List ℕ). sets l q bytes) (sets-behind lengths (sizeBytes (end - start + 2)) old (sets old p lengths) _ p (4 + 2 * i) refl refl place)
+        ∙ ap (λ (l : List ℕ). sets (sets old p l) q bytes) all
 
-    pub written-start : (old first : List ℕ) (place : ℕ) → length first ≡ 908 → Written old first place 0 1 place old first
-    written-start old first place h = record {
-      done = [];
-      going = going-start m settings image;
-      size = refl;
-      image-size = h;
-      reached = omega arith;
-      long = refl;
-      written = refl;
-      stored = refl;
-    }
+    pub written-more : (mid new stored : List ℕ) → mid ≡ putSize buffer (4 + 2 * i) (end - start + 2) →
+        new ≡ sets mid at (transactionOf (r .header .bus) (r .header .pins) (dataOf (r .settings) (record { start = start; len = end - start }))) →
+        stored ≡ sets image start (take (end - start) (drop start (r .settings))) →
+        Written old before (4 + 2 * first) (4 + 2 * n + 3 * first) (k + 1) end (at + (end - start + 2)) new stored
+    unfolding putSize
+    written-more mid new stored em en es =
+        let total = cost-append 2 (g .done) (one start end) in
+        let q : ℕ = 4 + 2 * n + 3 * first in
+        let lengths : List ℕ = sizesBytes (transactionLengths (g .done ++ one start end)) in
+        let bytes : List ℕ = transactionBytes (r .header) (r .settings) (g .done) in
+        let inside = all-append (λ (x : Write). x .start + x .len ≤ length (r .settings)) (g .done) (one start end) (g .inside) (omega (arith, placed .some u, placed .most), tt) in
+        let place : at ≡ q + length bytes = omega (arith, g .reached, bytes-size (r .header) (r .settings) (g .done) (g .inside)) in
+        record {
+          done = g .done ++ one start end;
+          going = going-more (marksOf r) k from start end (g .done) (g .going) placed next u;
+          size = ap length en ∙ length-sets mid at transaction ∙ ap length em ∙ length-sets buffer (4 + 2 * i) (sizeBytes (end - start + 2)) ∙ g .size;
+          image-size = ap length es ∙ length-sets image start (take (end - start) (drop start (r .settings))) ∙ g .image-size;
+          inside = inside;
+          reached = omega (arith, g .reached, total);
+          small = omega (arith, g .small, total, placed .behind u, placed .some u);
+          written =
+              sets-behind bytes transaction (sets old (4 + 2 * first) lengths) mid new q at (length-put mid em) en place
+              ∙ ap (λ (l : List ℕ). sets (sets old (4 + 2 * first) lengths) q (bytes ++ l)) (sym (bytes-one (r .header) (r .settings) w))
+              ∙ ap (sets (sets old (4 + 2 * first) lengths) q) (sym (bytes-append (r .header) (r .settings) (g .done) (one start end)));
+          stored =
+              es
+              ∙ ap (λ (l : List ℕ). sets l start (take (end - start) (drop start (r .settings)))) (g .stored)
+              ∙ sym (stores-append (r .settings) (g .done) (one start end) before);
+        }
 
-    -- there is room for the next transaction
-    pub written-room : Pair m settings image → (old first buffer taken : List ℕ) (place i from at start end writes : ℕ) → Written old first place i from at buffer taken →
-        FirstDiffering settings image from start → start < 908 → RunEnd m settings image (start + 1) end → i < writes →
-        place + cost (take writes (plan (marksOf m settings image) 908)) ≤ length old → at + (2 + (end - start)) ≤ length buffer
-    written-room pair old first buffer taken place i from at start end writes g f u r h room =
-        omega (
-          arith,
-          g .reached,
-          g .size,
-          cost-append 2 (g .done) (one start end),
-          going-cost m settings image (i + 1) end writes (g .done ++ one start end) (going-more m settings image pair i from start end (g .done) (g .going) f u r) (omega arith),
-        )
-
-    pub written-more : Pair m settings image → (old first buffer taken new kept : List ℕ) (place i from at start end : ℕ) → Written old first place i from at buffer taken →
-        FirstDiffering settings image from start → start < 908 → RunEnd m settings image (start + 1) end →
-        new ≡ sets buffer at (transactionOf bus pins (dataOf settings (record { start = start; len = end - start }))) →
-        kept ≡ sets taken start (take (end - start) (drop start settings)) →
-        Written old first place (i + 1) end (at + (end - start + 2)) new kept
-    written-more pair old first buffer taken new kept place i from at start end g f u r en ek = record {
-      done = g .done ++ one start end;
-      going = going-more m settings image pair i from start end (g .done) (g .going) f u r;
-      size = ap length en ∙ length-sets buffer at tx ∙ g .size;
-      image-size = ap length ek ∙ length-sets taken start (take (end - start) (drop start settings)) ∙ g .image-size;
-      reached = omega (arith, g .reached, cost-append 2 (g .done) (one start end));
-      long =
-          omega (
-            arith,
-            g .long,
-            ap length (bytes-more bus pins settings (g .done) (record { start = start; len = end - start })),
-            length-append (transactionBytes bus pins settings (g .done)) (transactionOf bus pins (dataOf settings (record { start = start; len = end - start }))),
-            transaction-length bus pins settings (record { start = start; len = end - start }) (omega (arith, r .most, pair .settings-size)),
-            cost-append 2 (g .done) (one start end),
-          );
-      written =
-          en
-          ∙ ap (λ (l : List ℕ). sets l at tx) (g .written)
-          ∙ ap (λ (k : ℕ). sets (sets old place (transactionBytes bus pins settings (g .done))) k tx) (omega (arith, g .reached, g .long))
-          ∙ sets-append (transactionBytes bus pins settings (g .done)) tx old place
-          ∙ ap (λ (l : List ℕ). sets old place l) (sym (bytes-more bus pins settings (g .done) (record { start = start; len = end - start })));
-      stored =
-          ek
-          ∙ ap (λ (l : List ℕ). sets l start (take (end - start) (drop start settings))) (g .stored)
-          ∙ sym (stores-append settings (g .done) (one start end) first);
-    }
-      where
-        tx : List ℕ
-        tx = transactionOf bus pins (dataOf settings (record { start = start; len = end - start }))
-
-    pub written-done : (old first buffer taken : List ℕ) (place i from at writes : ℕ) → i ≡ writes → Written old first place i from at buffer taken →
-        (buffer ≡ sets old place (transactionBytes bus pins settings (take writes (plan (marksOf m settings image) 908)))) ×
-        (taken ≡ storeWrites settings (take writes (plan (marksOf m settings image) 908)) first)
-    written-done old first buffer taken place i from at writes e g =
-        let p : g .done ≡ take writes (plan (marksOf m settings image) 908) =
-        sym (going-taken m settings image i from (g .done) (g .going)) ∙ ap (λ (k : ℕ). take k (plan (marksOf m settings image) 908)) e in (
-          g .written ∙ ap (λ (ws : List Write). sets old place (transactionBytes bus pins settings ws)) p,
-          g .stored ∙ ap (λ (ws : List Write). storeWrites settings ws first) p,
-        )
-
-    -- a turn: the transaction is written at the front of the part that starts at `at`
-    pub written-turn : Pair m settings image → (old first buffer taken part kept : List ℕ) (place i from at start end writes : ℕ) → Written old first place i from at buffer taken →
-        FirstDiffering settings image from start → start < 908 → RunEnd m settings image (start + 1) end → i < writes →
-        place + cost (take writes (plan (marksOf m settings image) 908)) ≤ length old →
-        part ≡ sets (take (length buffer - at) (drop at buffer)) 0 (transactionOf bus pins (dataOf settings (record { start = start; len = end - start }))) →
-        kept ≡ sets taken start (take (end - start) (drop start settings)) →
-        Written old first place (i + 1) end (at + (end - start + 2)) (take at buffer ++ (part ++ drop (length buffer - at) (drop at buffer))) kept
-    written-turn pair old first buffer taken part kept place i from at start end writes g f u r h room ep ek =
-        written-more pair old first buffer taken _ kept place i from at start end g f u r
-        (part-written buffer part (transactionOf bus pins (dataOf settings (record { start = start; len = end - start }))) at
-        (omega (
-          arith,
-          written-room pair old first buffer taken place i from at start end writes g f u r h room,
-          transaction-length bus pins settings (record { start = start; len = end - start }) (omega (arith, r .most, pair .settings-size)),
-        )) ep)
-        ek
+  pub written-done : (old before buffer image : List ℕ) (p q i from at count : ℕ) → i ≡ count → Written old before p q i from at buffer image →
+      (buffer ≡ sets (sets old p (sizesBytes (transactionLengths (planned r count)))) q (transactionBytes (r .header) (r .settings) (planned r count)))
+      × (image ≡ storeWrites (r .settings) (planned r count) before)
+  written-done old before buffer image p q i from at count e g =
+      let taken : g .done ≡ planned r count = sym (going-taken (marksOf r) i from (g .done) (g .going)) ∙ ap (planned r) e in (
+        g .written
+            ∙ ap (λ (ws : List Write). sets (sets old p (sizesBytes (transactionLengths ws))) q (transactionBytes (r .header) (r .settings) ws)) taken,
+        g .stored ∙ ap (λ (ws : List Write). storeWrites (r .settings) ws before) taken,
+      )

@@ -17,20 +17,22 @@ use Rattle.plan.specs.Plan.{cost, plan, scan}
 use Rattle.plan.specs.Writes.{AllGood}
 use Rattle.plan.specs.Update.{allDiffer, writeOf, Layout}
 use Rattle.plan.specs.UpdateLaws.{update-good, update-most, update-few}
+use Rattle.host.specs.declared.Header.{Header}
 use Rattle.host.specs.declared.Record.{Record}
-use Rattle.host.specs.Record.{soundOf}
+use Rattle.host.specs.Record.{soundOf, mayWrite}
 use Rattle.host.specs.SoundLaws.{sound-is}
+use Rattle.writes.specs.Marks.{chipView}
 use Rattle.update.specs.declared.ListAnswer.the-variants.{Listed}
-use Rattle.update.specs.Update.{listSize, chipView, writesOf, updateAnswer}
+use Rattle.update.specs.Update.{listSize, writesOf, sendAnswer, updateAnswer}
 use Rattle.update.specs.UpdateLaws.{image-layout}
 
 -- the plan after which every writable address differs, of each member
 full-test : ℕ → Bool
 full-test m = leb (cost (plan (allDiffer (writableOf m)) 908)) 699
 
-full-cost : (m : ℕ) → m < 5 → cost (plan (allDiffer (writableOf m)) 908) ≤ 699
-unfolding full-test allFrom plan scan writableOf reservedOf reservedAs kindOf linesOf columnsOf pwmReserved numberIn dotIn hasColumn currentReserved switchReserved switchMask noSink groupReserved groupMask firstMask firstMasks
-full-cost m h = leb-true (cost (plan (allDiffer (writableOf m)) 908)) 699 (all-at full-test 0 5 refl m (omega arith) h)
+full-cost : (h : Header) → h .member < 5 → cost (plan (allDiffer (mayWrite h)) 908) ≤ 699
+unfolding mayWrite full-test allFrom plan scan writableOf reservedOf reservedAs kindOf linesOf columnsOf pwmReserved numberIn dotIn hasColumn currentReserved switchReserved switchMask noSink groupReserved groupMask firstMask firstMasks
+full-cost h l = leb-true (cost (plan (allDiffer (writableOf (h .member))) 908)) 699 (all-at full-test 0 5 refl (h .member) (omega arith) l)
 
 -- every transaction has data
 good-data : (ok : ℕ → Bool) (bs : List Burst) → AllGood ok 908 (map writeOf bs) → AllData bs
@@ -38,18 +40,23 @@ good-data ok [] g = tt
 good-data ok (b ∷ bs) g = (g .0 .some, good-data ok bs (g .1))
 
 module _ (r : Record) (e : soundOf r ≡ true) where
-  layout : Layout (writableOf (r .member)) 908 (r .settings)
-  layout = image-layout (r .member) (r .settings) (sound-is r e .settings)
+  layout : Layout (mayWrite (r .header)) 908 (r .settings)
+  layout = image-layout (r .header) (r .settings) (sound-is r e .settings)
 
   -- t is at most 702
   pub bus-most : busBytes (writesOf r) ≤ 702
   unfolding writesOf
-  bus-most = omega (arith, update-most (writableOf (r .member)) 908 (r .settings) layout (chipView (r .settings) (r .image)), full-cost (r .member) (sound-is r e .settings .member))
+  bus-most =
+      omega (
+        arith,
+        update-most (mayWrite (r .header)) 908 (r .settings) layout (chipView r),
+        full-cost (r .header) (sound-is r e .settings .member),
+      )
 
   -- n is at most a third of t
   pub writes-few : 3 * length (writesOf r) ≤ busBytes (writesOf r)
   unfolding writesOf
-  writes-few = update-few (writableOf (r .member)) 908 (r .settings) layout (chipView (r .settings) (r .image))
+  writes-few = update-few (mayWrite (r .header)) 908 (r .settings) layout (chipView r)
 
   -- and the list has 1,174 bytes at most,
   pub size-most : listSize (writesOf r) ≤ 1174
@@ -57,18 +64,14 @@ module _ (r : Record) (e : soundOf r ≡ true) where
 
   -- so that a buffer of 1,174 bytes is never refused.
   pub always-room : (size : ℕ) → 1174 ≤ size → updateAnswer r size ≡ Listed (length (writesOf r)) (busBytes (writesOf r))
-  unfolding updateAnswer
+  unfolding sendAnswer
   always-room size h = rw (e, le-leb (listSize (writesOf r)) size (omega (arith, size-most))) refl
+
+  -- each address that an update names may be written
+  pub names-writable : AllGood (mayWrite (r .header)) 908 (map writeOf (writesOf r))
+  unfolding writesOf
+  names-writable = update-good (mayWrite (r .header)) 908 (r .settings) layout (chipView r)
 
   -- Every length and size fits two bytes: the list reads back as it was written.
   pub update-sendable : Sendable (writesOf r)
-  unfolding writesOf
-  update-sendable = record {
-    some = good-data (writableOf (r .member)) (writesOf r) (update-good (writableOf (r .member)) 908 (r .settings) layout (chipView (r .settings) (r .image)));
-    short = omega (arith, bus-most);
-  }
-
-  -- each address that an update names is a writable one of the member
-  pub names-writable : AllGood (writableOf (r .member)) 908 (map writeOf (writesOf r))
-  unfolding writesOf
-  names-writable = update-good (writableOf (r .member)) 908 (r .settings) layout (chipView (r .settings) (r .image))
+  update-sendable = record { some = good-data (mayWrite (r .header)) (writesOf r) names-writable; short = omega (arith, bus-most) }

@@ -1,5 +1,6 @@
 pub mod Update
-pub mod Runs
+pub mod Pieces
+pub mod SendLaws
 pub mod UpdateLaws
 pub mod BoundLaws
 pub mod UpdateExamples

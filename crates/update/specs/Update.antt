@@ -1,5 +1,5 @@
--- Update, Reset and the Clears: document 01, "Burst lists" and "Lamp faults". A call's definition has three parts: its answer, the
--- record that it returns, and the buffer as it leaves it.
+-- Update, Reset and the Clears: document 01, "Burst lists" and "Lamp faults". Each sends some writes, and sending is defined once, in
+-- three parts: the answer, the record that the call returns with it, and the buffer as it leaves it.
 -- Assumes nothing.
 use mathlib.Core.Bool.{Bool, true, false, cond}
 use mathlib.Core.List.{List, [], _∷_, _++_}
@@ -8,12 +8,12 @@ use lib.Dec.{leb}
 use lib.ListN.{length, getD, drop}
 use Rattle.map.specs.declared.refusals.Refusal.the-variants.{BufferShort, Unsound}
 use Rattle.map.specs.Refusals.{refusalNumber}
-use Rattle.map.specs.Map.{writableOf}
 use Rattle.map.specs.Images.{resetImage}
 use Rattle.burst.specs.Burst.{Burst, busBytes, encode}
-use Rattle.plan.specs.Update.{valueAt, View, seen, updateFor, storeAll}
+use Rattle.plan.specs.Update.{updateFor, storeAll}
 use Rattle.host.specs.declared.Record.{Record}
-use Rattle.host.specs.Record.{recordOf, soundOf}
+use Rattle.host.specs.Record.{recordOf, soundOf, mayWrite}
+use Rattle.writes.specs.Marks.{chipView}
 use Rattle.update.specs.declared.ListAnswer.{ListAnswer}
 use Rattle.update.specs.declared.ListAnswer.the-variants.{Listed, Short, Refused}
 use Rattle.update.specs.declared.Updated.{Updated}
@@ -36,6 +36,8 @@ isListed (Listed n t) = true
 isListed (Short needed) = false
 isListed (Refused r) = false
 
+-- ---- Sending
+
 -- "4 + 2n + t"
 abbrev pub listSize : List Burst → ℕ
 listSize bs = 4 + 2 * length bs + busBytes bs
@@ -44,38 +46,50 @@ listSize bs = 4 + 2 * length bs + busBytes bs
 abbrev pub over : List ℕ → List ℕ → List ℕ
 over bytes buffer = bytes ++ drop (length bytes) buffer
 
--- ---- Update
+-- What a call sends: its writes, what it answers of a buffer that is too short for their list, and the chip image once they are sent.
+pub record Sending : Type 0 where
+  pub writes : List Burst
+  pub short : ListAnswer
+  pub image : List ℕ
 
--- what is known of the chip, by the settings and the chip image: it has the bytes of the image
-abbrev pub chipView : List ℕ → List ℕ → View
-chipView settings image = seen (valueAt settings) (valueAt image)
+-- "Every call but Open and Faults first refuses an unsound record with 14." "10: buffer shorter than 4 + 2n + t". "Otherwise .. n and t
+-- answered"
+unfoldable pub sendAnswer : Record → Sending → ℕ → ListAnswer
+sendAnswer r x size =
+    cond (soundOf r)
+    (cond (leb (listSize (x .writes)) size) (Listed (length (x .writes)) (busBytes (x .writes))) (x .short))
+    (Refused Unsound)
+
+-- the answer, and the host's record: the chip image changes where a list was written, and nothing else does
+unfoldable pub sendOf : Record → Sending → ℕ → Updated
+sendOf r x size = record {
+  answer = sendAnswer r x size;
+  host = recordOf (r .header) (r .settings) (cond (isListed (sendAnswer r x size)) (x .image) (r .image));
+}
+
+-- "Otherwise exactly those bytes are written": a call that is refused leaves the buffer as it was
+unfoldable pub sendBuffer : Record → Sending → List ℕ → List ℕ
+sendBuffer r x buffer =
+    cond (isListed (sendAnswer r x (length buffer))) (over (encode (r .header .bus) (r .header .pins) (x .writes)) buffer) buffer
+
+-- ---- Update
 
 -- the writes of an update: document 01's two sentences are `updateFor` and `plan` of the crate plan
 unfoldable pub writesOf : Record → List Burst
-writesOf r = updateFor (writableOf (r .member)) 908 (r .settings) (chipView (r .settings) (r .image))
+writesOf r = updateFor (mayWrite (r .header)) 908 (r .settings) (chipView r)
 
--- "10: buffer shorter than 4 + 2n + t; the answer carries the length needed. Otherwise .. n and t answered"
-unfoldable pub updateAnswer : Record → ℕ → ListAnswer
-updateAnswer r size =
-    cond (soundOf r)
-    (cond (leb (listSize (writesOf r)) size) (Listed (length (writesOf r)) (busBytes (writesOf r))) (Short (listSize (writesOf r))))
-    (Refused Unsound)
+-- "the answer carries the length needed." ".. and the chip image takes the data bytes at their addresses."
+abbrev pub updating : Record → Sending
+updating r = record { writes = writesOf r; short = Short (listSize (writesOf r)); image = storeAll (writesOf r) (r .image) }
 
--- "and the chip image takes the data bytes at their addresses."
-unfoldable pub updateImage : Record → ℕ → List ℕ
-updateImage r size = cond (isListed (updateAnswer r size)) (storeAll (writesOf r) (r .image)) (r .image)
+abbrev pub updateAnswer : Record → ℕ → ListAnswer
+updateAnswer r size = sendAnswer r (updating r) size
 
--- Update: what it answers, and the record that it returns
-unfoldable pub updateOf : Record → ℕ → Updated
-updateOf r size = record {
-  answer = updateAnswer r size;
-  state = recordOf (r .member) (r .bus) (r .pins) (r .settings) (updateImage r size);
-}
+abbrev pub updateOf : Record → ℕ → Updated
+updateOf r size = sendOf r (updating r) size
 
--- Update: the buffer as it leaves it, the old one where the call is refused
-unfoldable pub updateBuffer : Record → List ℕ → List ℕ
-updateBuffer r buffer =
-    cond (isListed (updateAnswer r (length buffer))) (over (encode (r .bus) (r .pins) (writesOf r)) buffer) buffer
+abbrev pub updateBuffer : Record → List ℕ → List ℕ
+updateBuffer r buffer = sendBuffer r (updating r) buffer
 
 -- ---- Reset and the Clears
 
@@ -83,34 +97,38 @@ updateBuffer r buffer =
 abbrev pub commandWrite : ℕ → ℕ → List Burst
 commandWrite a v = record { start = a; bytes = v ∷ [] } ∷ []
 
--- "10: under 9 bytes. .. its 9 list bytes are written and no others, n and t answered, as in the Clear calls"
-unfoldable pub commandAnswer : Record → ℕ → ListAnswer
-commandAnswer r size = cond (soundOf r) (cond (leb 9 size) (Listed 1 3) (Refused BufferShort)) (Refused Unsound)
+-- "10: under 9 bytes", which "carries only its number"
+abbrev pub command : ℕ → ℕ → List ℕ → Sending
+command a v image = record { writes = commandWrite a v; short = Refused BufferShort; image = image }
 
--- "its 9 list bytes are written and no others": the buffer after one write of v to a
-unfoldable pub commandBuffer : Record → ℕ → ℕ → List ℕ → List ℕ
-commandBuffer r a v buffer =
-    cond (isListed (commandAnswer r (length buffer))) (over (encode (r .bus) (r .pins) (commandWrite a v)) buffer) buffer
+-- Reset: "One write of FFh to 0A9h". "After either, the chip image has reset values and the settings are kept."
+abbrev pub resetting : Record → Sending
+resetting r = command 0x0A9 0xFF (resetImage (r .header .member))
 
--- "One write of FFh to 0A9h"
+-- Clear opens: "one write of 0Fh to 0A7h,"
+abbrev pub clearingOpens : Record → Sending
+clearingOpens r = command 0x0A7 0x0F (r .image)
+
+-- Clear shorts: "or to 0A8h." The Clears "leave the record unchanged"
+abbrev pub clearingShorts : Record → Sending
+clearingShorts r = command 0x0A8 0x0F (r .image)
+
+-- "n and t answered, as in the Clear calls": what any command answers
+abbrev pub commandAnswer : Record → ℕ → ListAnswer
+commandAnswer r size = sendAnswer r (resetting r) size
+
+abbrev pub chipResetOf : Record → ℕ → Updated
+chipResetOf r size = sendOf r (resetting r) size
+
 abbrev pub resetBuffer : Record → List ℕ → List ℕ
-resetBuffer r buffer = commandBuffer r 0x0A9 0xFF buffer
+resetBuffer r buffer = sendBuffer r (resetting r) buffer
 
--- "one write of 0Fh to 0A7h,"
+-- either Clear: their lists have one length, and neither changes the record
+abbrev pub clearOf : Record → ℕ → Updated
+clearOf r size = sendOf r (clearingOpens r) size
+
 abbrev pub clearOpensBuffer : Record → List ℕ → List ℕ
-clearOpensBuffer r buffer = commandBuffer r 0x0A7 0x0F buffer
+clearOpensBuffer r buffer = sendBuffer r (clearingOpens r) buffer
 
--- "or to 0A8h."
 abbrev pub clearShortsBuffer : Record → List ℕ → List ℕ
-clearShortsBuffer r buffer = commandBuffer r 0x0A8 0x0F buffer
-
--- Reset: "After either, the chip image has reset values and the settings are kept."
-unfoldable pub chipResetOf : Record → ℕ → Updated
-chipResetOf r size = record {
-  answer = commandAnswer r size;
-  state = recordOf (r .member) (r .bus) (r .pins) (r .settings) (cond (isListed (commandAnswer r size)) (resetImage (r .member)) (r .image));
-}
-
--- the Clears "leave the record unchanged"
-unfoldable pub clearOf : Record → ℕ → Updated
-clearOf r size = record { answer = commandAnswer r size; state = r }
+clearShortsBuffer r buffer = sendBuffer r (clearingShorts r) buffer

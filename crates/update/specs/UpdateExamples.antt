@@ -11,7 +11,7 @@ use Rattle.host.specs.declared.Record.{Record}
 use Rattle.host.specs.Record.{soundOf}
 use Rattle.update.specs.declared.ListAnswer.{ListAnswer}
 use Rattle.update.specs.declared.ListAnswer.the-variants.{Listed, Short, Refused}
-use Rattle.update.specs.Update.{listNumbers, listNumber, isListed, listSize, over, writesOf, updateAnswer, commandAnswer, commandBuffer, resetBuffer, clearOpensBuffer, clearShortsBuffer, clearOf}
+use Rattle.update.specs.Update.{listNumbers, listNumber, isListed, listSize, over, Sending, sendAnswer, sendBuffer, writesOf, updateAnswer, commandAnswer, resetBuffer, clearOpensBuffer, clearShortsBuffer}
 
 -- "a definition states this paper's number and values for each case of the enum": n and t; the length needed; "only its number"
 answers : List ListAnswer
@@ -49,39 +49,29 @@ front-written = refl
 module _ (r : Record) (sound : soundOf r ≡ true) where
   -- "10: buffer shorter than 4 + 2n + t; the answer carries the length needed. Otherwise .. n and t answered"
   update-answers : writesOf r ≡ bench → (updateAnswer r 18 ≡ Short 19) × (updateAnswer r 19 ≡ Listed 3 9)
-  unfolding updateAnswer bench
+  unfolding sendAnswer bench
   update-answers e = rw (sound, e) (refl, refl)
 
   -- Reset and the Clears: "10: under 9 bytes.", which "carries only its number"
   command-answers : (commandAnswer r 8 ≡ Refused BufferShort) × (commandAnswer r 9 ≡ Listed 1 3)
-  unfolding commandAnswer
+  unfolding sendAnswer
   command-answers = rw sound (refl, refl)
 
   -- "its 9 list bytes are written and no others": on I2C with pins 3, "One write of FFh to 0A9h"
-  reset-bytes : r .bus ≡ 0 → r .pins ≡ 3 → resetBuffer r (replicate 10 0xA5) ≡ 0x01 ∷ 0x00 ∷ 0x03 ∷ 0x00 ∷ 0x03 ∷ 0x00 ∷ 0x98 ∷ 0xA9 ∷ 0xFF ∷ 0xA5 ∷ []
-  unfolding commandBuffer commandAnswer encode listOf transactionOf headFirst headSecond
+  reset-bytes : r .header .bus ≡ 0 → r .header .pins ≡ 3 → resetBuffer r (replicate 10 0xA5) ≡ 0x01 ∷ 0x00 ∷ 0x03 ∷ 0x00 ∷ 0x03 ∷ 0x00 ∷ 0x98 ∷ 0xA9 ∷ 0xFF ∷ 0xA5 ∷ []
+  unfolding sendBuffer sendAnswer encode listOf transactionOf headFirst headSecond
   reset-bytes b p = rw (sound, b, p) refl
 
   -- "one write of 0Fh to 0A7h, or to 0A8h."
-  clear-opens-bytes : r .bus ≡ 0 → r .pins ≡ 3 → clearOpensBuffer r (replicate 10 0xA5) ≡ 0x01 ∷ 0x00 ∷ 0x03 ∷ 0x00 ∷ 0x03 ∷ 0x00 ∷ 0x98 ∷ 0xA7 ∷ 0x0F ∷ 0xA5 ∷ []
-  unfolding commandBuffer commandAnswer encode listOf transactionOf headFirst headSecond
+  clear-opens-bytes : r .header .bus ≡ 0 → r .header .pins ≡ 3 → clearOpensBuffer r (replicate 10 0xA5) ≡ 0x01 ∷ 0x00 ∷ 0x03 ∷ 0x00 ∷ 0x03 ∷ 0x00 ∷ 0x98 ∷ 0xA7 ∷ 0x0F ∷ 0xA5 ∷ []
+  unfolding sendBuffer sendAnswer encode listOf transactionOf headFirst headSecond
   clear-opens-bytes b p = rw (sound, b, p) refl
 
-  clear-shorts-bytes : r .bus ≡ 0 → r .pins ≡ 3 → clearShortsBuffer r (replicate 10 0xA5) ≡ 0x01 ∷ 0x00 ∷ 0x03 ∷ 0x00 ∷ 0x03 ∷ 0x00 ∷ 0x98 ∷ 0xA8 ∷ 0x0F ∷ 0xA5 ∷ []
-  unfolding commandBuffer commandAnswer encode listOf transactionOf headFirst headSecond
+  clear-shorts-bytes : r .header .bus ≡ 0 → r .header .pins ≡ 3 → clearShortsBuffer r (replicate 10 0xA5) ≡ 0x01 ∷ 0x00 ∷ 0x03 ∷ 0x00 ∷ 0x03 ∷ 0x00 ∷ 0x98 ∷ 0xA8 ∷ 0x0F ∷ 0xA5 ∷ []
+  unfolding sendBuffer sendAnswer encode listOf transactionOf headFirst headSecond
   clear-shorts-bytes b p = rw (sound, b, p) refl
 
 -- "Every call but Open and Faults first refuses an unsound record with 14."
-module _ (r : Record) (unsound : soundOf r ≡ false) (size : ℕ) where
-  update-14 : updateAnswer r size ≡ Refused Unsound
-  unfolding updateAnswer
-  update-14 = rw unsound refl
-
-  command-14 : commandAnswer r size ≡ Refused Unsound
-  unfolding commandAnswer
-  command-14 = rw unsound refl
-
--- "the Clear calls, which leave the record unchanged."
-clear-leaves : (r : Record) (size : ℕ) → clearOf r size .state ≡ r
-unfolding clearOf
-clear-leaves r size = refl
+unsound-14 : (r : Record) (x : Sending) (size : ℕ) → soundOf r ≡ false → sendAnswer r x size ≡ Refused Unsound
+unfolding sendAnswer
+unsound-14 r x size unsound = rw unsound refl

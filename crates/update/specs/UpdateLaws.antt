@@ -1,8 +1,8 @@
--- Laws of a sound record and its update: where its two images can differ, what its enable bytes are, and that it stays sound.
+-- Laws of a sound record and its update: what its enable bytes are, and that the data bytes fit their addresses.
 -- Assumes nothing.
 use mathlib.Core.Path.{_≡_, refl, sym, ap, _∙_, subst}
 use mathlib.Core.Logic.{_⊎_, inl, inr}
-use mathlib.Core.Bool.{Bool, true, false, cond, not, _||_, true≢false}
+use mathlib.Core.Bool.{Bool, true, false, not, _||_, true≢false}
 use mathlib.Core.List.{List, [], _∷_}
 use Prim.Native.Nat.{ℕ, _+_, _-_, _≤_, _<_}
 use native.Mathlib.Decide.{decLt}
@@ -12,34 +12,25 @@ use lib.Dec.{leb, eqb}
 use lib.Bits.{bitAnd}
 use lib.ListN.{length, getD}
 use lib.Seq.{sets, length-sets}
-use Rattle.map.specs.Map.{reservedOf, resetOf, writableOf}
-use Rattle.map.specs.ByteLaws.{mask-byte, reset-byte, enable-mask, enable-reset}
+use Rattle.map.specs.Map.{reservedOf}
+use Rattle.map.specs.ByteLaws.{enable-mask, enable-reset}
 use Rattle.map.specs.WritableLaws.{below-writable}
 use Rattle.map.specs.Lists.{allFrom}
 use Rattle.map.specs.ListLaws.{all-at}
-use Rattle.map.specs.Images.{resetImage}
-use Rattle.map.specs.ImageLaws.{Fit, and-byte, Image}
+use Rattle.map.specs.ImageLaws.{Fit, Image}
 use Rattle.burst.specs.Burst.{Burst}
 use Rattle.plan.specs.Lists.{All, sets-outside, sets-inside}
 use Rattle.plan.specs.Update.{View, updateFor, storeAll, Layout}
 use Rattle.plan.specs.UpdateLaws.{Fitting, update-fitting}
+use Rattle.host.specs.declared.Header.{Header}
 use Rattle.host.specs.declared.Record.{Record}
-use Rattle.host.specs.Record.{recordOf, soundOf}
-use Rattle.host.specs.SoundLaws.{Sound, sound-is, is-sound, reset-image, chosen}
-use Rattle.update.specs.Update.{isListed, chipView, writesOf, updateAnswer, updateImage, updateOf, commandAnswer, chipResetOf}
+use Rattle.host.specs.Record.{mayWrite}
+use Rattle.host.specs.RecordLaws.{may-write}
+use Rattle.host.specs.SoundLaws.{Sound}
+use Rattle.writes.specs.Marks.{chipView}
+use Rattle.update.specs.Update.{writesOf, updating}
 
--- ---- one byte
-
--- outside the writable addresses a byte that fits is the reset value
-pub fixed-byte : (m a v : ℕ) → Fit m a v → writableOf m a ≡ false → v ≡ resetOf m a
-fixed-byte m a v f e = sym (and-byte v (f .byte)) ∙ ap (bitAnd v) (sym full) ∙ f .kept ∙ ap (bitAnd (resetOf m a)) full ∙ and-byte (resetOf m a) (reset-byte m a)
-  where
-    go : Dec (reservedOf m a < 255) → reservedOf m a ≡ 255
-    go (yes h) = absurd (true≢false (sym (below-writable m a h) ∙ e))
-    go (no n) = omega (arith, mask-byte m a)
-
-    full : reservedOf m a ≡ 255
-    full = go (decLt (reservedOf m a) 255)
+-- ---- 000h
 
 -- every byte without the reserved bits of 000h is 0 or 1
 low-bit : ℕ → Bool
@@ -57,25 +48,14 @@ enable-byte m v h f = leb-true v 1 (second (eqb (bitAnd v 0xFE) 0) (eq-eqb (bitA
     second true e t = t
     second false e t = absurd (true≢false (sym e))
 
--- ---- two images of one member
+-- ---- data bytes that fit
 
-module _ (m : ℕ) (settings image : List ℕ) (s : Image m settings) (i : Image m image) where
-  -- they differ at writable addresses only
-  pub differ-writable : (a : ℕ) → a < 908 → (getD settings a 0 ≡ getD image a 0 → ⊥) → writableOf m a ≡ true
-  differ-writable a h n = go (writableOf m a) refl
-    where
-      go : (b : Bool) → writableOf m a ≡ b → writableOf m a ≡ true
-      go true e = e
-      go false e = absurd (n (fixed-byte m a (getD settings a 0) (s .fits a h) e ∙ sym (fixed-byte m a (getD image a 0) (i .fits a h) e)))
-
-pub image-layout : (m : ℕ) (settings : List ℕ) → Image m settings → Layout (writableOf m) 908 settings
-image-layout m settings s = record {
+pub image-layout : (h : Header) (settings : List ℕ) → Image (h .member) settings → Layout (mayWrite h) 908 settings
+image-layout h settings s = record {
   some = omega arith;
-  enable-ok = below-writable m 0 (omega (arith, enable-mask m (s .member)));
+  enable-ok = may-write h 0 ∙ below-writable (h .member) 0 (omega (arith, enable-mask (h .member) (s .member)));
   size = s .size;
 }
-
--- ---- data bytes that fit
 
 store-one : (m : ℕ) (b : Burst) → Fitting (Fit m) 908 b → (image : List ℕ) → Image m image → Image m (sets image (b .start) (b .bytes))
 store-one m b f image i = record {
@@ -102,28 +82,14 @@ store-image m [] f image i = i
 store-image m (b ∷ bs) f image i = store-image m bs (f .1) (sets image (b .start) (b .bytes)) (store-one m b (f .0) image i)
 
 -- every data byte of an update may stand at its address
-pub update-fits : (m : ℕ) (settings : List ℕ) → Image m settings → (v : View) → All (Fitting (Fit m) 908) (updateFor (writableOf m) 908 settings v)
-update-fits m settings s v =
-    update-fitting (writableOf m) 908 settings (image-layout m settings s) (Fit m) (λ a l k. s .fits a l)
-    (enable-byte m (getD settings 0 0) (s .member) (s .fits 0 (omega arith))) v
+pub update-fits : (h : Header) (settings : List ℕ) → Image (h .member) settings → (v : View) →
+    All (Fitting (Fit (h .member)) 908) (updateFor (mayWrite h) 908 settings v)
+update-fits h settings s v =
+    update-fitting (mayWrite h) 908 settings (image-layout h settings s) (Fit (h .member)) (λ a l k. s .fits a l)
+    (enable-byte (h .member) (getD settings 0 0) (s .member) (s .fits 0 (omega arith))) v
 
--- ---- the calls keep a sound record sound
-
-image-sound : (r : Record) (image : List ℕ) → Sound r → Image (r .member) image → soundOf (recordOf (r .member) (r .bus) (r .pins) (r .settings) image) ≡ true
-image-sound r image s i =
-    is-sound (recordOf (r .member) (r .bus) (r .pins) (r .settings) image) (record { opened = s .opened; settings = s .settings; image = i })
-
-pub update-sound : (r : Record) (size : ℕ) → soundOf r ≡ true → soundOf (updateOf r size .state) ≡ true
-unfolding updateOf updateImage writesOf
-update-sound r size e =
-    let s = sound-is r e in
-    image-sound r (updateImage r size) s
-    (chosen (r .member) (isListed (updateAnswer r size)) (storeAll (writesOf r) (r .image)) (r .image)
-    (λ t. store-image (r .member) (writesOf r) (update-fits (r .member) (r .settings) (s .settings) (chipView (r .settings) (r .image))) (r .image) (s .image)) (s .image))
-
-pub reset-sound : (r : Record) (size : ℕ) → soundOf r ≡ true → soundOf (chipResetOf r size .state) ≡ true
-unfolding chipResetOf
-reset-sound r size e =
-    let s = sound-is r e in
-    image-sound r (cond (isListed (commandAnswer r size)) (resetImage (r .member)) (r .image)) s
-    (chosen (r .member) (isListed (commandAnswer r size)) (resetImage (r .member)) (r .image) (λ t. reset-image (r .member) (s .image .member)) (s .image))
+-- so the chip image that it leaves is an image
+pub update-image : (r : Record) → Sound r → Image (r .header .member) (updating r .image)
+unfolding writesOf
+update-image r s =
+    store-image (r .header .member) (writesOf r) (update-fits (r .header) (r .settings) (s .settings) (chipView r)) (r .image) (s .image)

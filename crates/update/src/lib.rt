@@ -4,17 +4,22 @@
 // differ, joins neighbours in one write where at most two writable addresses lie between them, and takes what it sends into the
 // chip image. Reset and the Clears are fixed commands. Each call writes its list to the front of the caller's buffer, answers the
 // number of transactions and their bytes, and leaves the rest of the buffer as it was.
+//
+// Each call by value is a few lines over a function on the header and the lent images (`update_parts` and so on), which a caller uses
+// that keeps its record elsewhere. They take images of any length: another than 908 is unsound.
 mod commands;
 mod lists;
-mod runs;
 
 ghost use mathlib.Core.Path.{_≡_};
-ghost use Prim.Native.Nat.{ℕ};
 ghost use lib.ListN.{length};
-ghost use Rattle.update.specs.Update.{updateOf, updateBuffer, chipResetOf, clearOf, commandBuffer, resetBuffer, clearOpensBuffer, clearShortsBuffer, listNumber};
-ghost use Rattle.update.specs.Runs.{commandStrings};
-use crate::commands::Strings;
+ghost use Rattle.map.specs.Refusals.{numbersOf};
+ghost use Rattle.update.specs.Update.{updateOf, updateBuffer, chipResetOf, resetBuffer, clearOf, clearOpensBuffer, clearShortsBuffer, listNumber, listNumbers};
+pub use commands::clear_opens_parts;
+pub use commands::clear_shorts_parts;
+pub use commands::reset_parts;
 use host::Record;
+pub use lists::update_parts;
+use map::Numbers;
 use map::Refusal;
 
 // What a call answers that writes a list.
@@ -26,10 +31,10 @@ pub enum ListAnswer {
     Refused(Refusal),
 }
 
-// The answer, and the record that the call gives back.
+// The answer, and the host's record that the call gives back.
 pub struct Updated {
     pub answer: ListAnswer,
-    pub state: Record,
+    pub host: Record,
 }
 
 // 0 where a list was written, else the refusal's number.
@@ -43,6 +48,20 @@ pub fn list_number(answer: ListAnswer) -> u8
     }
 }
 
+// That number, and the values that come with it: n and t, or the length needed.
+pub fn list_numbers(answer: ListAnswer) -> Numbers
+    ensures { λ r. ⌜ r ≡ numbersOf (listNumbers answer) ⌝ }
+{
+    match answer {
+        ListAnswer::Listed { n, t } => map::with_values(0, n, t),
+        ListAnswer::Short { needed } => map::with_value(
+            map::refusal_number(Refusal::BufferShort) as usize,
+            needed,
+        ),
+        ListAnswer::Refused(refusal) => map::number_alone(map::refusal_number(refusal) as usize),
+    }
+}
+
 // Bring the chip to the settings: the shortest list that does so. Afterwards the chip image is what the chip holds once it has heard
 // the list.
 pub fn update(mut r: Record, buffer: &mut [u8]) -> Updated
@@ -50,19 +69,11 @@ pub fn update(mut r: Record, buffer: &mut [u8]) -> Updated
     ensures { λ _. ⌜ now (buffer .exit) ≡ updateBuffer r (now (buffer .entry)) ⌝ }
 {
     let mut image = r.image;
-    let answer = lists::update(
-        r.member,
-        r.bus,
-        r.pins,
-        &r.settings,
-        &r.image,
-        &mut image,
-        buffer,
-    );
+    let answer = update_parts(r.header, &r.settings, &r.image, &mut image, buffer);
     r.image = image;
     Updated {
         answer: answer,
-        state: r,
+        host: r,
     }
 }
 
@@ -71,41 +82,12 @@ pub fn reset(mut r: Record, buffer: &mut [u8]) -> Updated
     ensures { λ x. ⌜ x ≡ chipResetOf r (length (now (buffer .entry))) ⌝ }
     ensures { λ _. ⌜ now (buffer .exit) ≡ resetBuffer r (now (buffer .entry)) ⌝ }
 {
-    let answer = commands::command(
-        r.member,
-        r.bus,
-        r.pins,
-        &r.settings,
-        &r.image,
-        buffer,
-        commands::RESET,
-    );
-    let believed = r.image;
-    let values = commands::after_reset(answer, r.member as usize, believed);
-    r.image = values;
+    let header = r.header;
+    let answer = reset_parts(header, &r.settings, &r.image, buffer);
+    commands::put_own(answer, header, &mut r.image);
     Updated {
         answer: answer,
-        state: r,
-    }
-}
-
-// A command that leaves the record as it is.
-fn clear(r: Record, buffer: &mut [u8], strings: Strings) -> Updated
-    ensures { λ x. ⌜ x ≡ clearOf r (length (now (buffer .entry))) ⌝ }
-    ensures { λ _. ⌜ ((a v : ℕ) → strings ≡ commandStrings a v → now (buffer .exit) ≡ commandBuffer r a v (now (buffer .entry))) ⌝ }
-{
-    let answer = commands::command(
-        r.member,
-        r.bus,
-        r.pins,
-        &r.settings,
-        &r.image,
-        buffer,
-        strings,
-    );
-    Updated {
-        answer: answer,
-        state: r,
+        host: r,
     }
 }
 
@@ -114,7 +96,11 @@ pub fn clear_opens(r: Record, buffer: &mut [u8]) -> Updated
     ensures { λ x. ⌜ x ≡ clearOf r (length (now (buffer .entry))) ⌝ }
     ensures { λ _. ⌜ now (buffer .exit) ≡ clearOpensBuffer r (now (buffer .entry)) ⌝ }
 {
-    clear(r, buffer, commands::CLEAR_OPENS)
+    let answer = clear_opens_parts(r.header, &r.settings, &r.image, buffer);
+    Updated {
+        answer: answer,
+        host: r,
+    }
 }
 
 // Clear the short bits of the chip.
@@ -122,5 +108,9 @@ pub fn clear_shorts(r: Record, buffer: &mut [u8]) -> Updated
     ensures { λ x. ⌜ x ≡ clearOf r (length (now (buffer .entry))) ⌝ }
     ensures { λ _. ⌜ now (buffer .exit) ≡ clearShortsBuffer r (now (buffer .entry)) ⌝ }
 {
-    clear(r, buffer, commands::CLEAR_SHORTS)
+    let answer = clear_shorts_parts(r.header, &r.settings, &r.image, buffer);
+    Updated {
+        answer: answer,
+        host: r,
+    }
 }

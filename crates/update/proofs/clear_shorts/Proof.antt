@@ -1,20 +1,18 @@
 -- `update::clear_shorts` meets its contract.
 -- Assumes nothing.
-use mathlib.Core.Path.{refl}
-use Rattle.burst.specs.Burst.{headFirst, headSecond, transactionOf, listOf, encode}
+use Rattle.update.proofs.Fixed.{clear-is}
 use borrow.Author.Needs.{needs}
 use Rattle.update.proofs.clear_shorts.Statement.{statement}
 use Rattle.update.proofs.clear_shorts.Tie as tie
 
-clear-requires : tie.Need-clear-requires
-clear-requires c κs = search needs
+clear-shorts-parts-requires : tie.Need-clear-shorts-parts-requires
+clear-shorts-parts-requires c κs = search needs
 
 same-length : tie.Need-same-length
 same-length c = search needs
 
 returns : tie.Need-returns
-unfolding encode listOf transactionOf headFirst headSecond
-returns c = (c .before .before .clear .ensures .0, c .before .before .clear .ensures .1 0x0A8 0x0F refl)
+returns c = let e = c .before .before .clear-shorts-parts .ensures in (clear-is _ _ _ (e .0), e .1)
 
 pub clear-shorts-spec : {M : Type 1} → statement M
-clear-shorts-spec = tie.close (tie.spec clear-requires same-length returns)
+clear-shorts-spec = tie.close (tie.spec clear-shorts-parts-requires same-length returns)

@@ -1,0 +1,346 @@
+-- The whole update: its sizes, and its pieces one behind the other, by document 01's definitions.
+-- Assumes nothing.
+use mathlib.Core.Path.{_≡_, refl, sym, ap, ap₂, subst, _∙_}
+use mathlib.Core.Bool.{Bool, true, false, cond}
+use mathlib.Core.List.{List, [], _∷_, _++_, map, append-assoc}
+use Prim.Native.Nat.{ℕ, zero, suc, _+_, _-_, _*_, _%_, _≤_, _<_}
+use native.Mathlib.Decide.{ℕ-discrete}
+use native.Mathlib.Omega.{arith}
+use borrow.Author.Tests.{eq-eqb, ne-eqb}
+use lib.Dec.{eqb}
+use lib.ListN.{length, getD, take, drop, length-append, length-map}
+use lib.Seq.{sets, take-suc, take-length, length-take-le}
+use Rattle.map.specs.declared.refusals.Refusal.the-variants.{Unsound}
+use Rattle.burst.specs.Burst.{Burst, sizeBytes, sizesBytes, busBytes, putSize, transactionOf, encode}
+use Rattle.burst.specs.BurstLaws.{encode-length}
+use Rattle.plan.specs.Lists.{All, all-append, all-weaken}
+use Rattle.plan.specs.Plan.{Mark, Write, cost, plan}
+use Rattle.plan.specs.Writes.{Good}
+use Rattle.plan.specs.WriteLaws.{cost-append}
+use Rattle.plan.specs.Update.{valueAt, View, onBy, sameAt, seen, marksFor, dataOf, updateFor, storeAll, Layout}
+use Rattle.plan.specs.UpdateLaws.{one-is, zero-is, plan-ok}
+use Rattle.host.specs.declared.Header.{Header}
+use Rattle.host.specs.declared.Record.{Record}
+use Rattle.host.specs.Record.{recordOf, soundOf, mayWrite}
+use Rattle.host.specs.SoundLaws.{Sound, sound-is}
+use Rattle.writes.specs.declared.scan.Matrix.{Matrix}
+use Rattle.writes.specs.Marks.{chipView, marksOf, matrixOf}
+use Rattle.writes.specs.Found.{Small, Counted}
+use Rattle.writes.specs.Written.{transactionLengths, transactionBytes, storeWrites, writesBytes}
+use Rattle.writes.specs.WrittenLaws.{Inside, sets-behind, sets-comm, sets-front, lengths-append, lengths-size, bytes-append, bytes-one, bytes-size, stores-append, writes-cost, list-written}
+use Rattle.update.specs.declared.ListAnswer.{ListAnswer}
+use Rattle.update.specs.declared.ListAnswer.the-variants.{Listed, Short, Refused}
+use Rattle.update.specs.Update.{listSize, writesOf, updating, updateAnswer, updateOf, updateBuffer}
+use Rattle.update.specs.SendLaws.{Leaves, send-unsound, send-short, send-listed}
+use Rattle.update.specs.UpdateLaws.{enable-byte, image-layout}
+use Rattle.update.specs.Pieces.{enableCount, enableWrites, planCount, planned, pending, ListSizes}
+
+-- ---- enable_count and list_sizes
+
+module _ (settings image : List ℕ) where
+  abbrev count : ℕ
+  count = enableCount (onBy (valueAt settings)) (seen (valueAt settings) (valueAt image))
+
+  by : (x y : Bool) → onBy (valueAt settings) ≡ x → onBy (valueAt image) ≡ y → count ≡ enableCount x (record { sure = y; perhaps = y; same = sameAt (valueAt settings) (valueAt image) })
+  by x y ex ey = rw (ex, ey) refl
+
+  pub enable-same : getD settings 0 0 % 2 ≡ getD image 0 0 % 2 → (0 ≡ count) × (0 ≤ 1)
+  unfolding enableCount
+  enable-same e = (sym (by b b (ap (λ (x : ℕ). eqb x 1) e) refl ∙ go b), omega arith)
+    where
+      b : Bool
+      b = eqb (getD image 0 0 % 2) 1
+
+      go : (b : Bool) → enableCount b (record { sure = b; perhaps = b; same = sameAt (valueAt settings) (valueAt image) }) ≡ 0
+      go true = refl
+      go false = refl
+
+  pub enable-other : (getD settings 0 0 % 2 ≡ getD image 0 0 % 2 → ⊥) → (1 ≡ count) × (1 ≤ 1)
+  unfolding enableCount
+  enable-other n = (sym (go (ℕ-discrete (getD settings 0 0 % 2) 1)), omega arith)
+    where
+      go : Dec (getD settings 0 0 % 2 ≡ 1) → count ≡ 1
+      go (yes e) = by true false (eq-eqb _ 1 e) (ne-eqb _ 1 (λ q. n (e ∙ sym q)))
+      go (no e) = by false true (ne-eqb _ 1 e) (eq-eqb (getD image 0 0 % 2) 1 (omega arith))
+
+module _ (r : Record) (first : ℕ) (f : (first ≡ enableCount (onBy (valueAt (r .settings))) (chipView r)) × (first ≤ 1)) where
+  pub sizes-off : (getD (r .settings) 0 0 % 2 ≡ 1 → ⊥) → ListSizes r first first (3 * first)
+  unfolding planCount
+  sizes-off n =
+      let none : planCount r ≡ 0 = rw (ne-eqb _ 1 n) refl in
+      record {
+        first-is = f .0;
+        n-is = omega arith;
+        t-is = omega (arith, ap (λ (k : ℕ). cost (planned r k)) none);
+        first-small = f .1;
+        few = omega arith;
+        most = omega (arith, f .1);
+      }
+
+  pub sizes-on : (count bytes : ℕ) → getD (r .settings) 0 0 % 2 ≡ 1 → Small count bytes → Counted (marksOf r) count bytes →
+      ListSizes r first (first + count) (3 * first + bytes)
+  unfolding planCount
+  sizes-on count bytes e s c =
+      let all : planCount r ≡ length (plan (marksOf r) 908) = rw (eq-eqb _ 1 e) refl in
+      let sent : cost (planned r (planCount r)) ≡ cost (plan (marksOf r) 908) = ap cost (ap (planned r) all ∙ take-length (plan (marksOf r) 908)) in
+      record {
+        first-is = f .0;
+        n-is = omega (arith, c .count-is);
+        t-is = omega (arith, c .bytes-are);
+        first-small = f .1;
+        few = omega (arith, s .few, f .1);
+        most = omega (arith, s .most, f .1);
+      }
+
+-- ---- the write of 000h
+
+enable-length : (first : ℕ) → first ≤ 1 → length (enableWrites first) ≡ first
+unfolding enableWrites
+enable-length zero h = refl
+enable-length (suc k) h = omega arith
+
+enable-cost : (first : ℕ) → first ≤ 1 → cost (enableWrites first) ≡ 3 * first
+unfolding enableWrites
+enable-cost zero h = refl
+enable-cost (suc k) h = omega arith
+
+enable-inside : (settings : List ℕ) (first : ℕ) → length settings ≡ 908 → Inside settings (enableWrites first)
+unfolding enableWrites
+enable-inside settings zero h = tt
+enable-inside settings (suc k) h = (omega arith, tt)
+
+module _ (h : Header) (settings image old front : List ℕ) (first n t : ℕ) (e : front ≡ sets old 0 (sizeBytes n ++ sizeBytes t)) where
+  abbrev Fronted : List ℕ → List ℕ → Type 0
+  Fronted new taken =
+      (new
+      ≡ sets (sets old 0 ((sizeBytes n ++ sizeBytes t) ++ sizesBytes (transactionLengths (enableWrites first)))) (4 + 2 * n)
+      (transactionBytes h settings (enableWrites first)))
+      × (taken ≡ storeWrites settings (enableWrites first) image)
+
+  pub front-none : first ≡ 0 → Fronted front image
+  unfolding enableWrites
+  front-none z = rw z (e, refl)
+
+  pub front-first : (mid new taken : List ℕ) → first ≡ 1 → mid ≡ putSize front (4 + 2 * 0) 3 →
+      new ≡ sets mid (4 + 2 * n) (transactionOf (h .bus) (h .pins) (dataOf settings (record { start = 0; len = 1 }))) →
+      taken ≡ sets image 0 (take 1 (drop 0 settings)) → Fronted new taken
+  unfolding enableWrites putSize
+  front-first mid new taken z em en et =
+      rw z (
+        en
+            ∙ ap₂ (λ (l k : List ℕ). sets l (4 + 2 * n) k) (sets-behind (sizeBytes n ++ sizeBytes t) (sizeBytes 3) old front mid 0 4 e em refl)
+            (sym (bytes-one h settings (record { start = 0; len = 1 }))),
+        et,
+      )
+
+-- ---- put_list
+
+regroup : (a b c d e : List ℕ) → (((a ++ b) ++ c) ++ d) ++ e ≡ a ++ ((b ++ c) ++ (d ++ e))
+regroup a b c d e = simp append-assoc
+
+plan-most : (r : Record) → planCount r ≤ length (plan (marksOf r) 908)
+unfolding planCount
+plan-most r = go (onBy (valueAt (r .settings)))
+  where
+    go : (b : Bool) → cond b (length (plan (marksOf r) 908)) 0 ≤ length (plan (marksOf r) 908)
+    go true = omega arith
+    go false = omega arith
+
+module _ (r : Record) (first n t : ℕ) (z : ListSizes r first n t) where
+  planned-length : length (planned r (planCount r)) ≡ planCount r
+  planned-length = length-take-le (planCount r) (plan (marksOf r) 908) (plan-most r)
+
+  pending-length : length (pending r first) ≡ n
+  pending-length = omega (arith, length-append (enableWrites first) (planned r (planCount r)), enable-length first (z .first-small), planned-length, z .n-is)
+
+  pending-cost : cost (pending r first) ≡ t
+  pending-cost = omega (arith, cost-append 2 (enableWrites first) (planned r (planCount r)), enable-cost first (z .first-small), z .t-is)
+
+  -- the writes of the plan among n
+  left : n - first ≡ planCount r
+  left = omega (arith, z .n-is)
+
+  pub n-fits : (first ≤ n) × (n ≤ 909) × (n ≤ first + length (plan (marksOf r) 908))
+  n-fits = (omega (arith, z .n-is), omega (arith, z .few, z .most), omega (arith, z .n-is, plan-most r))
+
+  -- the pieces, each where the one before ends
+  pub pieces : length (r .settings) ≡ 908 → (b₀ b₁ b₂ : List ℕ) →
+      b₁
+      ≡ sets (sets b₀ 0 ((sizeBytes n ++ sizeBytes t) ++ sizesBytes (transactionLengths (enableWrites first)))) (4 + 2 * n)
+      (transactionBytes (r .header) (r .settings) (enableWrites first)) →
+      b₂
+      ≡ sets (sets b₁ (4 + 2 * first) (sizesBytes (transactionLengths (planned r (n - first))))) (4 + 2 * n + 3 * first)
+      (transactionBytes (r .header) (r .settings) (planned r (n - first))) →
+      b₂ ≡ sets b₀ 0 (writesBytes (r .header) (r .settings) (pending r first))
+  unfolding writesBytes
+  pieces size b₀ b₁ b₂ e₁ e₂ =
+      let ws : List Write = planned r (planCount r) in
+      let nt : List ℕ = sizeBytes n ++ sizeBytes t in
+      let el : List ℕ = sizesBytes (transactionLengths (enableWrites first)) in
+      let pl : List ℕ = sizesBytes (transactionLengths ws) in
+      let et : List ℕ = transactionBytes (r .header) (r .settings) (enableWrites first) in
+      let pt : List ℕ = transactionBytes (r .header) (r .settings) ws in
+      let e₃ : b₂ ≡ sets (sets b₁ (4 + 2 * first) pl) (4 + 2 * n + 3 * first) pt =
+      e₂
+      ∙ ap (λ (k : ℕ). sets (sets b₁ (4 + 2 * first) (sizesBytes (transactionLengths (planned r k)))) (4 + 2 * n + 3 * first) (transactionBytes (r .header) (r .settings) (planned r k))) left in
+      let l₁ : length (nt ++ el) ≡ 4 + 2 * first = omega (arith, length-append nt el, lengths-size (enableWrites first), enable-length first (z .first-small)) in
+      let l₂ : length ((nt ++ el) ++ pl) ≡ 4 + 2 * n = omega (arith, length-append (nt ++ el) pl, lengths-size ws, planned-length, z .n-is) in
+      let l₃ : length (((nt ++ el) ++ pl) ++ et) ≡ 4 + 2 * n + 3 * first =
+      omega (arith, length-append ((nt ++ el) ++ pl) et, bytes-size (r .header) (r .settings) (enableWrites first) (enable-inside (r .settings) first size), enable-cost first (z .first-small)) in
+      let fits : 4 + 2 * first + length pl ≤ 4 + 2 * n = omega (arith, lengths-size ws, planned-length, z .n-is) in
+      let turned : sets b₁ (4 + 2 * first) pl ≡ sets (sets (sets b₀ 0 (nt ++ el)) (4 + 2 * first) pl) (4 + 2 * n) et =
+      ap (λ (b : List ℕ). sets b (4 + 2 * first) pl) e₁ ∙ sym (sets-comm pl et (sets b₀ 0 (nt ++ el)) (4 + 2 * first) (4 + 2 * n) fits) in
+      let p₂ = sets-behind (nt ++ el) pl b₀ (sets b₀ 0 (nt ++ el)) (sets (sets b₀ 0 (nt ++ el)) (4 + 2 * first) pl) 0 (4 + 2 * first) refl refl (omega arith) in
+      let p₃ = sets-behind ((nt ++ el) ++ pl) et b₀ _ (sets b₁ (4 + 2 * first) pl) 0 (4 + 2 * n) p₂ turned (omega arith) in
+      sets-behind (((nt ++ el) ++ pl) ++ et) pt b₀ (sets b₁ (4 + 2 * first) pl) b₂ 0 (4 + 2 * n + 3 * first) p₃ e₃ (omega arith)
+      ∙ ap (sets b₀ 0)
+      (regroup nt el pl et pt
+      ∙ ap₂ (λ (x y : ℕ). (sizeBytes x ++ sizeBytes y) ++ ((el ++ pl) ++ (et ++ pt))) (sym pending-length) (sym pending-cost)
+      ∙ ap₂ (λ (x y : List ℕ). (sizeBytes (length (pending r first)) ++ sizeBytes (cost (pending r first))) ++ (x ++ y))
+      (sym (lengths-append (enableWrites first) ws)) (sym (bytes-append (r .header) (r .settings) (enableWrites first) ws)))
+
+  pub taken-both : (i₀ i₁ i₂ : List ℕ) → i₁ ≡ storeWrites (r .settings) (enableWrites first) i₀ → i₂ ≡ storeWrites (r .settings) (planned r (n - first)) i₁ →
+      i₂ ≡ storeWrites (r .settings) (pending r first) i₀
+  taken-both i₀ i₁ i₂ e₁ e₂ =
+      e₂
+      ∙ ap₂ (λ (k : ℕ) (i : List ℕ). storeWrites (r .settings) (planned r k) i) left e₁
+      ∙ sym (stores-append (r .settings) (enableWrites first) (planned r (planCount r)) i₀)
+
+-- ---- the list by document 01
+
+module _ (ok : ℕ → Bool) (settings : List ℕ) (v : View) (size : length settings ≡ 908) (small : getD settings 0 0 ≤ 1) where
+  abbrev on : Bool
+  on = onBy (valueAt settings)
+
+  abbrev ws : List Write
+  ws = plan (marksFor ok (v .same)) 908
+
+  -- the settings' byte, which the write of 000h sends
+  enable-data : (k : ℕ) → getD settings 0 0 ≡ k → record { start = 0x000; bytes = k ∷ [] } ≡ dataOf settings (record { start = 0x000; len = 1 })
+  enable-data k e = ap (λ (l : List ℕ). record { start = 0x000; bytes = l }) (sym (take-suc settings 0 0 (omega arith) ∙ ap (λ (x : ℕ). x ∷ []) e))
+
+  -- what is known of the chip may be anything
+  writes-by : updateFor ok 908 settings v ≡ map (dataOf settings) (enableWrites (enableCount on v) ++ take (cond on (length ws) 0) ws)
+  unfolding updateFor enableCount enableWrites
+  writes-by = go on refl (v .sure) refl (v .perhaps) refl
+    where
+      bs : List Burst
+      bs = map (dataOf settings) ws
+
+      all : map (dataOf settings) (take (length ws) ws) ≡ bs
+      all = ap (map (dataOf settings)) (take-length ws)
+
+      go : (w : Bool) → on ≡ w → (s : Bool) → v .sure ≡ s → (c : Bool) → v .perhaps ≡ c →
+          updateFor ok 908 settings v ≡ map (dataOf settings) (enableWrites (enableCount on v) ++ take (cond on (length ws) 0) ws)
+      go true e true es c ec = rw (e, es) (sym all)
+      go true e false es c ec = rw (e, es) (ap₂ _∷_ (enable-data 1 (one-is (getD settings 0 0) e small)) (sym all))
+      go false e s es true ec = rw (e, ec) (ap (λ (x : Burst). x ∷ []) (enable-data 0 (zero-is (getD settings 0 0) e small)))
+      go false e s es false ec = rw (e, ec) refl
+
+all-take : {A : Type 0} (P : A → Type 0) (k : ℕ) (xs : List A) → All P xs → All P (take k xs)
+all-take P zero xs h = tt
+all-take P (suc k) [] h = tt
+all-take P (suc k) (x ∷ xs) h = (h .0, all-take P k xs (h .1))
+
+-- what a sound record's update sends
+pub record Sends (r : Record) (first n t : ℕ) : Type 0 where
+  pub n-is : length (writesOf r) ≡ n
+  pub t-is : busBytes (writesOf r) ≡ t
+  pub list-is : encode (r .header .bus) (r .header .pins) (writesOf r) ≡ writesBytes (r .header) (r .settings) (pending r first)
+  pub stored-is : storeAll (writesOf r) (r .image) ≡ storeWrites (r .settings) (pending r first) (r .image)
+
+pub sends : (r : Record) → Sound r → (first n t : ℕ) → ListSizes r first n t → Sends r first n t
+unfolding writesOf planCount
+sends r s first n t z = record {
+  n-is = ap length are ∙ length-map ws (dataOf (r .settings)) ∙ pending-length r first n t z;
+  t-is = ap busBytes are ∙ writes-cost (r .settings) ws inside ∙ pending-cost r first n t z;
+  list-is = ap (encode (r .header .bus) (r .header .pins)) are ∙ list-written (r .header) (r .settings) ws inside;
+  stored-is = ap (λ (bs : List Burst). storeAll bs (r .image)) are;
+}
+  where
+    ws : List Write
+    ws = pending r first
+
+    size : length (r .settings) ≡ 908
+    size = s .settings .size
+
+    layout : Layout (mayWrite (r .header)) 908 (r .settings)
+    layout = image-layout (r .header) (r .settings) (s .settings)
+
+    fits : (w : Write) → Good (mayWrite (r .header)) 908 w → w .start + w .len ≤ length (r .settings)
+    fits w g = omega (arith, g .fits, size)
+
+    inside : Inside (r .settings) (pending r first)
+    inside =
+        all-append (λ (w : Write). w .start + w .len ≤ length (r .settings)) (enableWrites first) (planned r (planCount r)) (enable-inside (r .settings) first size)
+        (all-take (λ (w : Write). w .start + w .len ≤ length (r .settings)) (planCount r) (plan (marksOf r) 908)
+        (all-weaken (Good (mayWrite (r .header)) 908) (λ (w : Write). w .start + w .len ≤ length (r .settings)) fits (plan (marksOf r) 908)
+        (plan-ok (mayWrite (r .header)) 908 (r .settings) layout (chipView r))))
+
+    are : writesOf r ≡ map (dataOf (r .settings)) ws
+    are =
+        writes-by (mayWrite (r .header)) (r .settings) (chipView r) size
+        (enable-byte (r .header .member) (getD (r .settings) 0 0) (s .settings .member) (s .settings .fits 0 (omega arith)))
+        ∙ ap (λ (k : ℕ). map (dataOf (r .settings)) (pending r k)) (sym (z .first-is))
+
+-- ---- update_parts
+
+module _ (r : Record) (buffer : List ℕ) (first n t : ℕ) (e : soundOf r ≡ true) (z : ListSizes r first n t) where
+  size-is : listSize (writesOf r) ≡ 4 + 2 * n + t
+  size-is = let s = sends r (sound-is r e) first n t z in omega (arith, s .n-is, s .t-is)
+
+  update-short : length buffer < 4 + 2 * n + t →
+      Leaves r (updating r) buffer (Short (4 + 2 * n + t)) (r .image) buffer
+  update-short h = rw (← size-is) (send-short r (updating r) buffer refl e (omega (arith, size-is)))
+
+  update-listed : (new : List ℕ) → 4 + 2 * n + t ≤ length buffer →
+      new ≡ sets buffer 0 (writesBytes (r .header) (r .settings) (pending r first)) →
+      Leaves r (updating r) buffer (Listed n t) (storeWrites (r .settings) (pending r first) (r .image)) new
+  update-listed new h en =
+      let s = sends r (sound-is r e) first n t z in
+      let l = send-listed r (updating r) buffer e (omega (arith, size-is)) in
+      let list : List ℕ = encode (r .header .bus) (r .header .pins) (writesOf r) in
+      record {
+        answer-is = ap₂ Listed (sym (s .n-is)) (sym (s .t-is)) ∙ l .answer-is;
+        image-is = sym (s .stored-is) ∙ l .image-is;
+        buffer-is =
+            en ∙ ap (sets buffer 0) (sym (s .list-is))
+            ∙ sets-front list buffer (omega (arith, encode-length (r .header .bus) (r .header .pins) (writesOf r), size-is)) ∙ l .buffer-is;
+      }
+
+module _ (h : Header) (settings old image buffer : List ℕ) where
+  -- what the call leaves: its answer, the image that was a copy of the old one, and the buffer
+  abbrev pub Outcome : ListAnswer → List ℕ → List ℕ → Type 0
+  Outcome answer taken new =
+      let r = recordOf h settings old in
+      (answer ≡ updateAnswer r (length buffer)) × ((image ≡ old → taken ≡ updateOf r (length buffer) .host .image) × (new ≡ updateBuffer r buffer))
+
+  pub parts-unsound : soundOf (recordOf h settings old) ≡ false → Outcome (Refused Unsound) image buffer
+  parts-unsound e =
+      let l = send-unsound (recordOf h settings old) (updating (recordOf h settings old)) buffer e in
+      (l .answer-is, (λ q. q ∙ l .image-is, l .buffer-is))
+
+  module _ (first n t : ℕ) (matrix : Matrix) (em : matrix ≡ matrixOf h) (e : soundOf (recordOf h settings old) ≡ true)
+      (z : ListSizes (recordOf (matrix .header) settings old) first n t) where
+    same : matrix .header ≡ h
+    same = ap (λ (x : Matrix). x .header) em
+
+    sizes : ListSizes (recordOf h settings old) first n t
+    sizes = subst (λ (x : Header). ListSizes (recordOf x settings old) first n t) same z
+
+    pub parts-short : length buffer < 4 + 2 * n + t → Outcome (Short (4 + 2 * n + t)) image buffer
+    parts-short short =
+        let l = update-short (recordOf h settings old) buffer first n t e sizes short in
+        (l .answer-is, (λ q. q ∙ l .image-is, l .buffer-is))
+
+    pub parts-listed : (taken new : List ℕ) → 4 + 2 * n + t ≤ length buffer →
+        new ≡ sets buffer 0 (writesBytes (matrix .header) settings (pending (recordOf (matrix .header) settings old) first)) →
+        taken ≡ storeWrites settings (pending (recordOf (matrix .header) settings old) first) image →
+        Outcome (Listed n t) taken new
+    parts-listed taken new room en et =
+        let list = ap (λ (x : Header). sets buffer 0 (writesBytes x settings (pending (recordOf x settings old) first))) same in
+        let stored = ap (λ (x : Header). storeWrites settings (pending (recordOf x settings old) first) image) same in
+        let l = update-listed (recordOf h settings old) buffer first n t e sizes new room (en ∙ list) in (
+          l .answer-is,
+          (λ q. et ∙ stored ∙ ap (storeWrites settings (pending (recordOf h settings old) first)) q ∙ l .image-is, l .buffer-is),
+        )
