@@ -1,2 +1,3 @@
 pub mod Copies
-pub mod Settled
+pub mod InPlace
+pub mod Listed

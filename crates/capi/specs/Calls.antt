@@ -5,8 +5,10 @@ use mathlib.Core.List.{List}
 use Prim.Native.Nat.{ℕ}
 use lib.ListN.{length}
 use Rattle.map.specs.declared.refusals.Answer.the-variants.{Accepted}
-use Rattle.host.specs.Record.{openOf, registerOf, lampOf, groupOf, switchOf, sceneOf, powerLostOf}
-use Rattle.update.specs.Update.{updateOf, updateBuffer, chipResetOf, resetBuffer, clearOf, clearOpensBuffer, clearShortsBuffer}
+use Rattle.calls.specs.declared.Setting.{Setting}
+use Rattle.host.specs.Record.{openOf, settingOf, powerLostOf}
+use Rattle.host.specs.declared.Record.{Record}
+use Rattle.update.specs.Update.{Sending, sendOf, sendBuffer, updating, updateOf, resetting, clearingOpens, clearingShorts}
 use Rattle.chip.specs.Chip.{atResetOf, feedOf}
 use Rattle.capi.specs.Capi.{recordIn, chipIn, Outcome, settingOutcome, chipOutcome, listAnswer, neededAfter, ListOutcome, listOutcome}
 
@@ -16,25 +18,9 @@ use Rattle.capi.specs.Capi.{recordIn, chipIn, Outcome, settingOutcome, c
 abbrev pub openCall : List ℕ → ℕ → ℕ → ℕ → Outcome
 openCall bytes m b p = settingOutcome bytes (openOf m b p)
 
--- lp586x_register
-abbrev pub registerCall : List ℕ → ℕ → ℕ → Outcome
-registerCall bytes a v = settingOutcome bytes (registerOf (recordIn bytes) a v)
-
--- lp586x_lamp
-abbrev pub lampCall : List ℕ → ℕ → ℕ → ℕ → Outcome
-lampCall bytes l s v = settingOutcome bytes (lampOf (recordIn bytes) l s v)
-
--- lp586x_group
-abbrev pub groupCall : List ℕ → ℕ → ℕ → ℕ → Outcome
-groupCall bytes l s g = settingOutcome bytes (groupOf (recordIn bytes) l s g)
-
--- lp586x_switch
-abbrev pub switchCall : List ℕ → ℕ → ℕ → ℕ → Outcome
-switchCall bytes l s x = settingOutcome bytes (switchOf (recordIn bytes) l s x)
-
--- lp586x_scene
-abbrev pub sceneCall : List ℕ → List ℕ → Outcome
-sceneCall bytes scene = settingOutcome bytes (sceneOf (recordIn bytes) scene)
+-- any setting: lp586x_register, lp586x_lamp, lp586x_group, lp586x_switch and lp586x_scene are one each
+abbrev pub settingCall : List ℕ → Setting → List ℕ → Outcome
+settingCall bytes q lent = settingOutcome bytes (settingOf (recordIn bytes) q lent)
 
 -- lp586x_power_lost
 abbrev pub powerLostCall : List ℕ → Outcome
@@ -42,10 +28,14 @@ powerLostCall bytes = settingOutcome bytes (powerLostOf (recordIn bytes))
 
 -- ---- Lists of bus writes
 
+-- a call that sends: f says what, of the record that the bytes hold
+abbrev pub sendCall : (Record → Sending) → List ℕ → List ℕ → ℕ → ℕ → ListOutcome
+sendCall f bytes buffer n t =
+    listOutcome bytes (sendOf (recordIn bytes) (f (recordIn bytes)) (length buffer)) (sendBuffer (recordIn bytes) (f (recordIn bytes)) buffer) buffer n t
+
 -- lp586x_update
 abbrev pub updateCall : List ℕ → List ℕ → ℕ → ℕ → ListOutcome
-updateCall bytes buffer n t =
-    listOutcome bytes (updateOf (recordIn bytes) (length buffer)) (updateBuffer (recordIn bytes) buffer) buffer n t
+updateCall = sendCall updating
 
 -- and the length needed, which only this call stores
 abbrev pub updateNeeded : List ℕ → List ℕ → ℕ → ℕ
@@ -53,18 +43,15 @@ updateNeeded bytes buffer needed = neededAfter (listAnswer bytes (updateOf (reco
 
 -- lp586x_reset
 abbrev pub resetCall : List ℕ → List ℕ → ℕ → ℕ → ListOutcome
-resetCall bytes buffer n t =
-    listOutcome bytes (chipResetOf (recordIn bytes) (length buffer)) (resetBuffer (recordIn bytes) buffer) buffer n t
+resetCall = sendCall resetting
 
 -- lp586x_clear_opens
 abbrev pub clearOpensCall : List ℕ → List ℕ → ℕ → ℕ → ListOutcome
-clearOpensCall bytes buffer n t =
-    listOutcome bytes (clearOf (recordIn bytes) (length buffer)) (clearOpensBuffer (recordIn bytes) buffer) buffer n t
+clearOpensCall = sendCall clearingOpens
 
 -- lp586x_clear_shorts
 abbrev pub clearShortsCall : List ℕ → List ℕ → ℕ → ℕ → ListOutcome
-clearShortsCall bytes buffer n t =
-    listOutcome bytes (clearOf (recordIn bytes) (length buffer)) (clearShortsBuffer (recordIn bytes) buffer) buffer n t
+clearShortsCall = sendCall clearingShorts
 
 -- ---- The chip model
 

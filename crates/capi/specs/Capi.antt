@@ -2,7 +2,7 @@
 -- it was lent. The sentences are the header's. r is a record, c a chip, x what a call on values gives back.
 -- Assumes nothing.
 use mathlib.Core.Bool.{Bool, cond}
-use mathlib.Core.List.{List, _∷_, _++_}
+use mathlib.Core.List.{List, [], _∷_, _++_}
 use Prim.Native.Nat.{ℕ, _<_, _^_}
 use lib.Dec.{eqb}
 use lib.ListN.{length, getD, take, drop}
@@ -12,7 +12,8 @@ use Rattle.map.specs.declared.refusals.Refusal.the-variants.{BufferShort, Unsou
 use Rattle.map.specs.Refusals.{refusalNumber, answerNumber, accepted}
 use Rattle.host.specs.declared.Record.{Record}
 use Rattle.host.specs.declared.Changed.{Changed}
-use Rattle.host.specs.Record.{recordOf}
+use Rattle.host.specs.declared.Header.{Header}
+use Rattle.host.specs.Record.{headerOf, recordOf}
 use Rattle.update.specs.declared.ListAnswer.{ListAnswer}
 use Rattle.update.specs.declared.ListAnswer.the-variants.{Listed, Short, Refused}
 use Rattle.update.specs.declared.Updated.{Updated}
@@ -22,21 +23,33 @@ use Rattle.chip.specs.Chip.{chipOf}
 
 -- ---- Records and chips as bytes
 
--- the 908 bytes from a place on
-abbrev pub imageAt : ℕ → List ℕ → List ℕ
-imageAt from bytes = take 908 (drop from bytes)
+-- "Bytes of a record: member, bus, pins,"
+unfoldable pub headerIn : List ℕ → Header
+headerIn bytes = headerOf (getD bytes 0 0) (getD bytes 1 0) (getD bytes 2 0)
 
--- "Bytes of a record: member, bus, pins, 908 settings, 908 of the chip as the host believes it."
+-- "908 settings,"
+abbrev pub settingsIn : List ℕ → List ℕ
+settingsIn bytes = take 908 (drop 3 bytes)
+
+-- "908 of the chip as the host believes it."
+abbrev pub imageIn : List ℕ → List ℕ
+imageIn bytes = take 908 (drop 911 bytes)
+
+-- the record that the bytes hold
 unfoldable pub recordIn : List ℕ → Record
-recordIn bytes = recordOf (getD bytes 0 0) (getD bytes 1 0) (getD bytes 2 0) (imageAt 3 bytes) (imageAt 911 bytes)
+recordIn bytes = recordOf (headerIn bytes) (settingsIn bytes) (imageIn bytes)
 
--- the bytes of a record, in the same order
+-- the bytes of a header, in the same order
+abbrev pub headerBytes : Header → List ℕ
+headerBytes h = h .member ∷ h .bus ∷ h .pins ∷ []
+
+-- and those of a record
 unfoldable pub recordBytes : Record → List ℕ
-recordBytes r = r .member ∷ r .bus ∷ r .pins ∷ r .settings ++ r .image
+recordBytes r = headerBytes (r .header) ++ (r .settings ++ r .image)
 
 -- "Of a chip: member, bus, pins, 908 registers."
 unfoldable pub chipIn : List ℕ → Chip
-chipIn bytes = chipOf (getD bytes 0 0) (getD bytes 1 0) (getD bytes 2 0) (imageAt 3 bytes)
+chipIn bytes = chipOf (getD bytes 0 0) (getD bytes 1 0) (getD bytes 2 0) (take 908 (drop 3 bytes))
 
 -- the bytes of a chip, in the same order
 unfoldable pub chipBytes : Chip → List ℕ
@@ -67,7 +80,7 @@ settingNumber bytes x = answerNumber (whenSized (recordSized bytes) (x .answer))
 
 -- "A refused call changes no byte that was lent to it": the bytes of the record that an accepted call gives back, else the old ones
 unfoldable pub settingBytes : List ℕ → Changed → List ℕ
-settingBytes bytes x = cond (accepted (whenSized (recordSized bytes) (x .answer))) (recordBytes (x .state)) bytes
+settingBytes bytes x = cond (accepted (whenSized (recordSized bytes) (x .answer))) (recordBytes (x .host)) bytes
 
 -- a setting's outcome
 abbrev pub settingOutcome : List ℕ → Changed → Outcome
@@ -93,7 +106,7 @@ listAnswer bytes x = cond (recordSized bytes) (x .answer) (Refused Unsound)
 
 -- "A refused call changes no byte that was lent to it": the record's bytes after a list, or the old ones
 unfoldable pub listBytes : List ℕ → Updated → List ℕ
-listBytes bytes x = cond (isListed (listAnswer bytes x)) (recordBytes (x .state)) bytes
+listBytes bytes x = cond (isListed (listAnswer bytes x)) (recordBytes (x .host)) bytes
 
 -- the buffer as the call on the record leaves it, or as it was where the size is wrong
 unfoldable pub bufferAfter : List ℕ → List ℕ → List ℕ → List ℕ

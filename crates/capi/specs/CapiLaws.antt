@@ -2,13 +2,13 @@
 -- Assumes nothing.
 use mathlib.Core.Path.{_≡_, refl, sym, ap, _∙_}
 use mathlib.Core.Bool.{Bool, true, false, cond, false≢true}
-use mathlib.Core.List.{List, [], _∷_, _++_}
+use mathlib.Core.List.{List, [], _∷_, _++_, append-assoc}
 use Prim.Native.Nat.{ℕ, suc, _≤_}
 use native.Mathlib.Omega.{arith}
 use borrow.Author.Tests.{eq-eqb, ne-eqb}
 use lib.Dec.{eqb}
 use lib.ListN.{length, getD, take, drop, length-append, length-drop, take-append-drop}
-use lib.Seq.{take-all, take-at, drop-at, drop-drop}
+use lib.Seq.{take-all, take-at, drop-at}
 use Rattle.map.specs.declared.refusals.Answer.{Answer}
 use Rattle.map.specs.declared.refusals.Answer as answers
 use Rattle.map.specs.declared.refusals.Refusal.{Refusal}
@@ -24,40 +24,63 @@ use Rattle.update.specs.Update.{isListed, listNumber}
 use Rattle.chip.specs.declared.Chip.{Chip}
 use Rattle.chip.specs.Chip.{chipOf}
 use Rattle.faults.specs.Faults.{answered, answerNumbers, faultsChecked, faultsAnswer, faultsResult, opensAgree, shortsAgree}
-use Rattle.capi.specs.Capi.{imageAt, recordIn, recordBytes, chipIn, chipBytes, recordSized, chipSized, whenSized, settingNumber, settingBytes, chipNumber, chipAfter, listAnswer, listBytes, stored, nAfter, tAfter, neededAfter}
+use Rattle.capi.specs.Capi.{headerIn, settingsIn, imageIn, recordIn, recordBytes, chipIn, chipBytes, recordSized, chipSized, whenSized, settingNumber, settingBytes, chipNumber, chipAfter, listAnswer, listBytes, stored, nAfter, tAfter, neededAfter}
 
 -- ---- the bytes read back
 
 -- the three bytes before the images
-front-back : (bytes : List ℕ) → 3 ≤ length bytes → getD bytes 0 0 ∷ getD bytes 1 0 ∷ getD bytes 2 0 ∷ drop 3 bytes ≡ bytes
-front-back [] h = absurd (omega arith)
-front-back (m ∷ []) h = absurd (omega arith)
-front-back (m ∷ b ∷ []) h = absurd (omega arith)
-front-back (m ∷ b ∷ p ∷ l) h = refl
+pub front : (bytes l : List ℕ) → 3 ≤ length bytes → take 3 bytes ++ l ≡ getD bytes 0 0 ∷ getD bytes 1 0 ∷ getD bytes 2 0 ∷ l
+front [] l h = absurd (omega arith)
+front (m ∷ []) l h = absurd (omega arith)
+front (m ∷ b ∷ []) l h = absurd (omega arith)
+front (m ∷ b ∷ p ∷ rest) l h = refl
 
--- bytes of the right size are those of the record that they hold
-pub record-round : (bytes : List ℕ) → length bytes ≡ 1819 → recordBytes (recordIn bytes) ≡ bytes
-unfolding recordIn recordBytes
-record-round bytes h =
-    ap (λ (l : List ℕ). getD bytes 0 0 ∷ getD bytes 1 0 ∷ getD bytes 2 0 ∷ imageAt 3 bytes ++ l)
-    (take-all 908 (drop 911 bytes) (omega (arith, length-drop 911 bytes)) ∙ sym (drop-drop 908 3 bytes))
-    ∙ ap (λ (l : List ℕ). getD bytes 0 0 ∷ getD bytes 1 0 ∷ getD bytes 2 0 ∷ l) (take-append-drop 908 (drop 3 bytes))
-    ∙ front-back bytes (omega arith)
+-- they and the settings
+front-settings : (bytes : List ℕ) → 3 ≤ length bytes → take 911 bytes ≡ take 3 bytes ++ take 908 (drop 3 bytes)
+front-settings [] h = absurd (omega arith)
+front-settings (m ∷ []) h = absurd (omega arith)
+front-settings (m ∷ b ∷ []) h = absurd (omega arith)
+front-settings (m ∷ b ∷ p ∷ rest) h = refl
 
--- and those of the chip
+module _ (bytes : List ℕ) (h : length bytes ≡ 1819) where
+  -- the record that the bytes hold, with other settings: only their part of the bytes is another
+  pub settings-stored : (settings : List ℕ) → recordBytes (recordOf (headerIn bytes) settings (imageIn bytes)) ≡ take 3 bytes ++ (settings ++ drop 911 bytes)
+  unfolding headerIn recordBytes
+  settings-stored settings =
+      ap (λ (l : List ℕ). getD bytes 0 0 ∷ getD bytes 1 0 ∷ getD bytes 2 0 ∷ settings ++ l) (take-all 908 (drop 911 bytes) (omega (arith, length-drop 911 bytes)))
+      ∙ sym (front bytes (settings ++ drop 911 bytes) (omega arith))
+
+  -- with another image
+  pub image-stored : (image : List ℕ) → recordBytes (recordOf (headerIn bytes) (settingsIn bytes) image) ≡ take 911 bytes ++ image
+  unfolding headerIn recordBytes
+  image-stored image =
+      sym (front bytes (settingsIn bytes ++ image) (omega arith))
+      ∙ sym (append-assoc (take 3 bytes) (settingsIn bytes) image)
+      ∙ ap (λ (l : List ℕ). l ++ image) (sym (front-settings bytes (omega arith)))
+
+  -- and with its own: bytes of the right size are those of the record that they hold
+  pub record-round : recordBytes (recordIn bytes) ≡ bytes
+  unfolding recordIn
+  record-round =
+      image-stored (imageIn bytes)
+      ∙ ap (λ (l : List ℕ). take 911 bytes ++ l) (take-all 908 (drop 911 bytes) (omega (arith, length-drop 911 bytes)))
+      ∙ take-append-drop 911 bytes
+
+-- bytes of the right size are those of the chip that they hold
 pub chip-round : (bytes : List ℕ) → length bytes ≡ 911 → chipBytes (chipIn bytes) ≡ bytes
 unfolding chipIn chipBytes
 chip-round bytes h =
     ap (λ (l : List ℕ). getD bytes 0 0 ∷ getD bytes 1 0 ∷ getD bytes 2 0 ∷ l) (take-all 908 (drop 3 bytes) (omega (arith, length-drop 3 bytes)))
-    ∙ front-back bytes (omega arith)
+    ∙ sym (front bytes (drop 3 bytes) (omega arith))
+    ∙ take-append-drop 3 bytes
 
 -- a record is read back from its bytes
 pub record-back : (r : Record) → length (r .settings) ≡ 908 → length (r .image) ≡ 908 → recordIn (recordBytes r) ≡ r
-unfolding recordIn recordBytes
+unfolding recordIn headerIn recordBytes
 record-back r hs hi =
-    ap (λ (l : List ℕ). recordOf (r .member) (r .bus) (r .pins) l (take 908 (drop 908 (r .settings ++ r .image)))) (take-at (r .settings) (r .image) 908 hs)
-    ∙ ap (λ (l : List ℕ). recordOf (r .member) (r .bus) (r .pins) (r .settings) (take 908 l)) (drop-at (r .settings) (r .image) 908 hs)
-    ∙ ap (λ (l : List ℕ). recordOf (r .member) (r .bus) (r .pins) (r .settings) l) (take-all 908 (r .image) (omega arith))
+    ap (λ (l : List ℕ). recordOf (r .header) l (take 908 (drop 908 (r .settings ++ r .image)))) (take-at (r .settings) (r .image) 908 hs)
+    ∙ ap (λ (l : List ℕ). recordOf (r .header) (r .settings) (take 908 l)) (drop-at (r .settings) (r .image) 908 hs)
+    ∙ ap (λ (l : List ℕ). recordOf (r .header) (r .settings) l) (take-all 908 (r .image) (omega arith))
 
 -- and a chip
 pub chip-back : (c : Chip) → length (c .registers) ≡ 908 → chipIn (chipBytes c) ≡ c
@@ -135,7 +158,7 @@ answer-keeps (answers.the-variants.Refused x) new old n = refl
 -- of a setting
 pub setting-keeps : (bytes : List ℕ) (x : Changed) → (settingNumber bytes x ≡ 0 → ⊥) → settingBytes bytes x ≡ bytes
 unfolding settingNumber settingBytes
-setting-keeps bytes x n = answer-keeps (whenSized (recordSized bytes) (x .answer)) (recordBytes (x .state)) bytes n
+setting-keeps bytes x n = answer-keeps (whenSized (recordSized bytes) (x .answer)) (recordBytes (x .host)) bytes n
 
 -- of a call on a chip
 pub chip-keeps : (bytes : List ℕ) (answer : Answer) (c : Chip) → (chipNumber bytes answer ≡ 0 → ⊥) → chipAfter bytes answer c ≡ bytes

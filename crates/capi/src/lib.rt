@@ -1,16 +1,32 @@
 // The C interface, include/lp586x.h.
 //
-// A record is 1,819 bytes in the caller's memory and a chip 911. A call reads them, makes the call of the same name on the values,
-// and stores what it gives back where it was accepted. It answers 0 or the number of its refusal; bytes of another size are refused
-// as an unsound record is. A slice is a pointer and a length in C.
-mod answers;
+// A record is 1,819 bytes in the caller's memory and a chip 911. A call works on them where they stand: it lends their parts to the
+// functions of host, update and chip, and what changes is stored there and nothing else. It answers 0 or the number of its
+// refusal; bytes of another size are refused as an unsound record is. A slice is a pointer and a length in C.
+mod lists;
 mod records;
 
 ghost use mathlib.Core.Path.{_≡_};
-ghost use lib.ListN.{getD};
+ghost use mathlib.Core.List.{[]};
+ghost use lib.ListN.{length, getD};
+ghost use Rattle.map.specs.declared.refusals.Refusal.the-variants.{Unsound};
+ghost use Rattle.map.specs.Refusals.{refusalNumber};
 ghost use Rattle.faults.specs.Faults.{answerNumbers, faultsAnswer, faultsResult};
-ghost use Rattle.capi.specs.Calls.{openCall, registerCall, lampCall, groupCall, switchCall, sceneCall, powerLostCall, updateCall, updateNeeded, resetCall, clearOpensCall, clearShortsCall, chipAtResetCall, chipPowerLostCall, chipFeedCall};
+ghost use Rattle.host.specs.Record.{recordOf};
+ghost use Rattle.update.specs.Update.{updateAnswer, updateOf, updateBuffer};
+ghost use Rattle.capi.specs.Calls.{openCall, settingCall, powerLostCall, updateCall, updateNeeded, resetCall, clearOpensCall, clearShortsCall, chipAtResetCall, chipPowerLostCall, chipFeedCall};
+use calls::Setting;
+use host::Header;
 use map::Answer;
+use map::Refusal;
+use update::ListAnswer;
+
+// The answer to bytes of another size: that of an unsound record.
+fn wrong_size() -> u32
+    ensures { λ r. ⌜ r ≡ refusalNumber Unsound ⌝ }
+{
+    map::refusal_number(Refusal::Unsound) as u32
+}
 
 // ---- The record and its settings
 
@@ -20,75 +36,89 @@ pub extern "C" fn lp586x_open(bytes: &mut [u8], member: u32, bus: u32, pins: u32
     ensures { λ _. ⌜ now (bytes .exit) ≡ openCall (now (bytes .entry)) member bus pins .bytes ⌝ }
 {
     if bytes.len() != records::RECORD_SIZE {
-        return answers::wrong_size();
+        return wrong_size();
     }
-    let changed = host::open(member as usize, bus as usize, pins as usize);
-    answers::settle(bytes, changed)
+    let answer = map::open_answer(member as usize, bus as usize, pins as usize);
+    match answer {
+        Answer::Accepted => {
+            records::put_record(bytes, member as usize, bus as usize, pins as usize);
+            0
+        }
+        Answer::Refused(refusal) => map::refusal_number(refusal) as u32,
+    }
+}
+
+// Any setting; a scene's bytes are lent.
+pub fn set(bytes: &mut [u8], setting: Setting, lent: &[u8]) -> u32
+    ensures { λ r. ⌜ r ≡ settingCall (now (bytes .entry)) setting (now (lent .entry)) .answer ⌝ }
+    ensures { λ _. ⌜ now (bytes .exit) ≡ settingCall (now (bytes .entry)) setting (now (lent .entry)) .bytes ⌝ }
+{
+    if bytes.len() != records::RECORD_SIZE {
+        return wrong_size();
+    }
+    let header = records::header(bytes);
+    let answer = host::setting_answer(header, &bytes[3..911], &bytes[911..1819], setting, lent);
+    host::put_setting(answer, header, &mut bytes[3..911], setting, lent);
+    map::answer_number(answer) as u32
 }
 
 #[no_mangle]
 pub extern "C" fn lp586x_register(bytes: &mut [u8], address: u32, value: u32) -> u32
-    ensures { λ r. ⌜ r ≡ registerCall (now (bytes .entry)) address value .answer ⌝ }
-    ensures { λ _. ⌜ now (bytes .exit) ≡ registerCall (now (bytes .entry)) address value .bytes ⌝ }
+    ensures { λ r. ⌜ r ≡ settingCall (now (bytes .entry)) (Setting.Register address value) [] .answer ⌝ }
+    ensures { λ _. ⌜ now (bytes .exit) ≡ settingCall (now (bytes .entry)) (Setting.Register address value) [] .bytes ⌝ }
 {
-    if bytes.len() != records::RECORD_SIZE {
-        return answers::wrong_size();
-    }
-    let r = records::load(bytes);
-    let changed = answers::register(r, address as usize, value);
-    answers::settle(bytes, changed)
+    let setting = Setting::Register {
+        address: address as usize,
+        value: value as usize,
+    };
+    set(bytes, setting, b"")
 }
 
 #[no_mangle]
 pub extern "C" fn lp586x_lamp(bytes: &mut [u8], line: u32, sink: u32, level: u32) -> u32
-    ensures { λ r. ⌜ r ≡ lampCall (now (bytes .entry)) line sink level .answer ⌝ }
-    ensures { λ _. ⌜ now (bytes .exit) ≡ lampCall (now (bytes .entry)) line sink level .bytes ⌝ }
+    ensures { λ r. ⌜ r ≡ settingCall (now (bytes .entry)) (Setting.Lamp line sink level) [] .answer ⌝ }
+    ensures { λ _. ⌜ now (bytes .exit) ≡ settingCall (now (bytes .entry)) (Setting.Lamp line sink level) [] .bytes ⌝ }
 {
-    if bytes.len() != records::RECORD_SIZE {
-        return answers::wrong_size();
-    }
-    let r = records::load(bytes);
-    let changed = host::lamp(r, line as usize, sink as usize, level as usize);
-    answers::settle(bytes, changed)
+    let setting = Setting::Lamp {
+        line: line as usize,
+        sink: sink as usize,
+        level: level as usize,
+    };
+    set(bytes, setting, b"")
 }
 
 #[no_mangle]
 pub extern "C" fn lp586x_group(bytes: &mut [u8], line: u32, sink: u32, group: u32) -> u32
-    ensures { λ r. ⌜ r ≡ groupCall (now (bytes .entry)) line sink group .answer ⌝ }
-    ensures { λ _. ⌜ now (bytes .exit) ≡ groupCall (now (bytes .entry)) line sink group .bytes ⌝ }
+    ensures { λ r. ⌜ r ≡ settingCall (now (bytes .entry)) (Setting.Group line sink group) [] .answer ⌝ }
+    ensures { λ _. ⌜ now (bytes .exit) ≡ settingCall (now (bytes .entry)) (Setting.Group line sink group) [] .bytes ⌝ }
 {
-    if bytes.len() != records::RECORD_SIZE {
-        return answers::wrong_size();
-    }
-    let r = records::load(bytes);
-    let changed = host::group(r, line as usize, sink as usize, group as usize);
-    answers::settle(bytes, changed)
+    let setting = Setting::Group {
+        line: line as usize,
+        sink: sink as usize,
+        group: group as usize,
+    };
+    set(bytes, setting, b"")
 }
 
 #[no_mangle]
 pub extern "C" fn lp586x_switch(bytes: &mut [u8], line: u32, sink: u32, state: u32) -> u32
-    ensures { λ r. ⌜ r ≡ switchCall (now (bytes .entry)) line sink state .answer ⌝ }
-    ensures { λ _. ⌜ now (bytes .exit) ≡ switchCall (now (bytes .entry)) line sink state .bytes ⌝ }
+    ensures { λ r. ⌜ r ≡ settingCall (now (bytes .entry)) (Setting.Switch line sink state) [] .answer ⌝ }
+    ensures { λ _. ⌜ now (bytes .exit) ≡ settingCall (now (bytes .entry)) (Setting.Switch line sink state) [] .bytes ⌝ }
 {
-    if bytes.len() != records::RECORD_SIZE {
-        return answers::wrong_size();
-    }
-    let r = records::load(bytes);
-    let changed = host::switch(r, line as usize, sink as usize, state as usize);
-    answers::settle(bytes, changed)
+    let setting = Setting::Switch {
+        line: line as usize,
+        sink: sink as usize,
+        state: state as usize,
+    };
+    set(bytes, setting, b"")
 }
 
 #[no_mangle]
 pub extern "C" fn lp586x_scene(bytes: &mut [u8], scene: &[u8]) -> u32
-    ensures { λ r. ⌜ r ≡ sceneCall (now (bytes .entry)) (now (scene .entry)) .answer ⌝ }
-    ensures { λ _. ⌜ now (bytes .exit) ≡ sceneCall (now (bytes .entry)) (now (scene .entry)) .bytes ⌝ }
+    ensures { λ r. ⌜ r ≡ settingCall (now (bytes .entry)) Setting.Scene (now (scene .entry)) .answer ⌝ }
+    ensures { λ _. ⌜ now (bytes .exit) ≡ settingCall (now (bytes .entry)) Setting.Scene (now (scene .entry)) .bytes ⌝ }
 {
-    if bytes.len() != records::RECORD_SIZE {
-        return answers::wrong_size();
-    }
-    let r = records::load(bytes);
-    let changed = host::scene(r, scene);
-    answers::settle(bytes, changed)
+    set(bytes, Setting::Scene, scene)
 }
 
 #[no_mangle]
@@ -97,14 +127,31 @@ pub extern "C" fn lp586x_power_lost(bytes: &mut [u8]) -> u32
     ensures { λ _. ⌜ now (bytes .exit) ≡ powerLostCall (now (bytes .entry)) .bytes ⌝ }
 {
     if bytes.len() != records::RECORD_SIZE {
-        return answers::wrong_size();
+        return wrong_size();
     }
-    let r = records::load(bytes);
-    let changed = host::power_lost(r);
-    answers::settle(bytes, changed)
+    let header = records::header(bytes);
+    let answer = host::sound_answer(header, &bytes[3..911], &bytes[911..1819]);
+    host::put_lost(answer, header, &mut bytes[911..1819]);
+    map::answer_number(answer) as u32
 }
 
 // ---- Lists of bus writes
+
+// An update on the parts of a record, with a copy of its image.
+fn update_image<'a>(
+    header: Header,
+    settings: &'a [u8],
+    old: &'a [u8],
+    image: &mut [u8; 908],
+    buffer: &mut [u8],
+) -> ListAnswer
+    ensures { λ r. ⌜ r ≡ updateAnswer (recordOf header (now (settings .entry)) (now (old .entry))) (length (now (buffer .entry))) ⌝ }
+    ensures { λ _. ⌜ (now (image .entry) ≡ now (old .entry) → now (image .exit) ≡ updateOf (recordOf header (now (settings .entry)) (now (old .entry))) (length (now (buffer .entry))) .host .image) ⌝ }
+    ensures { λ _. ⌜ length (now (image .exit)) ≡ length (now (image .entry)) ⌝ }
+    ensures { λ _. ⌜ now (buffer .exit) ≡ updateBuffer (recordOf header (now (settings .entry)) (now (old .entry))) (now (buffer .entry)) ⌝ }
+{
+    update::update_parts(header, settings, old, image, buffer)
+}
 
 #[no_mangle]
 pub extern "C" fn lp586x_update(
@@ -122,14 +169,20 @@ pub extern "C" fn lp586x_update(
     ensures { λ _. ⌜ now (needed .exit) ≡ updateNeeded (now (bytes .entry)) (now (buffer .entry)) (now (needed .entry)) ⌝ }
 {
     if bytes.len() != records::RECORD_SIZE {
-        return answers::wrong_size();
+        return wrong_size();
     }
-    let r = records::load(bytes);
-    let updated = update::update(r, buffer);
-    let answer = updated.answer;
-    answers::keep(bytes, updated);
-    answers::put_needed(answer, needed);
-    answers::count(answer, n, t)
+    let header = records::header(bytes);
+    let mut image = records::image(bytes);
+    let answer = update_image(
+        header,
+        &bytes[3..911],
+        &bytes[911..1819],
+        &mut image,
+        buffer,
+    );
+    lists::keep(answer, bytes, &image);
+    lists::put_needed(answer, needed);
+    lists::count(answer, n, t)
 }
 
 #[no_mangle]
@@ -141,13 +194,12 @@ pub extern "C" fn lp586x_reset(bytes: &mut [u8], buffer: &mut [u8], n: &mut u32,
     ensures { λ _. ⌜ now (t .exit) ≡ resetCall (now (bytes .entry)) (now (buffer .entry)) (now (n .entry)) (now (t .entry)) .t ⌝ }
 {
     if bytes.len() != records::RECORD_SIZE {
-        return answers::wrong_size();
+        return wrong_size();
     }
-    let r = records::load(bytes);
-    let updated = update::reset(r, buffer);
-    let answer = updated.answer;
-    answers::keep(bytes, updated);
-    answers::count(answer, n, t)
+    let header = records::header(bytes);
+    let answer = update::reset_parts(header, &bytes[3..911], &bytes[911..1819], buffer);
+    lists::keep_reset(answer, header, &mut bytes[911..1819]);
+    lists::count(answer, n, t)
 }
 
 #[no_mangle]
@@ -163,12 +215,11 @@ pub extern "C" fn lp586x_clear_opens(
     ensures { λ _. ⌜ now (t .exit) ≡ clearOpensCall (now (bytes .entry)) (now (buffer .entry)) (now (n .entry)) (now (t .entry)) .t ⌝ }
 {
     if bytes.len() != records::RECORD_SIZE {
-        return answers::wrong_size();
+        return wrong_size();
     }
-    let r = records::load(bytes);
-    let updated = update::clear_opens(r, buffer);
-    let answer = updated.answer;
-    answers::count(answer, n, t)
+    let header = records::header(bytes);
+    let answer = update::clear_opens_parts(header, &bytes[3..911], &bytes[911..1819], buffer);
+    lists::count(answer, n, t)
 }
 
 #[no_mangle]
@@ -184,12 +235,11 @@ pub extern "C" fn lp586x_clear_shorts(
     ensures { λ _. ⌜ now (t .exit) ≡ clearShortsCall (now (bytes .entry)) (now (buffer .entry)) (now (n .entry)) (now (t .entry)) .t ⌝ }
 {
     if bytes.len() != records::RECORD_SIZE {
-        return answers::wrong_size();
+        return wrong_size();
     }
-    let r = records::load(bytes);
-    let updated = update::clear_shorts(r, buffer);
-    let answer = updated.answer;
-    answers::count(answer, n, t)
+    let header = records::header(bytes);
+    let answer = update::clear_shorts_parts(header, &bytes[3..911], &bytes[911..1819], buffer);
+    lists::count(answer, n, t)
 }
 
 // ---- Lamp faults
@@ -229,12 +279,16 @@ pub extern "C" fn lp586x_chip_at_reset(bytes: &mut [u8], member: u32, bus: u32, 
     ensures { λ _. ⌜ now (bytes .exit) ≡ chipAtResetCall (now (bytes .entry)) member bus pins .bytes ⌝ }
 {
     if bytes.len() != records::CHIP_SIZE {
-        return answers::wrong_size();
+        return wrong_size();
     }
-    let opened = chip::at_reset(member as usize, bus as usize, pins as usize);
-    let answer = opened.answer;
-    let chip = opened.chip;
-    answers::settle_chip(bytes, answer, chip)
+    let answer = map::open_answer(member as usize, bus as usize, pins as usize);
+    match answer {
+        Answer::Accepted => {
+            records::put_chip(bytes, member as usize, bus as usize, pins as usize);
+            0
+        }
+        Answer::Refused(refusal) => map::refusal_number(refusal) as u32,
+    }
 }
 
 #[no_mangle]
@@ -243,11 +297,11 @@ pub extern "C" fn lp586x_chip_power_lost(bytes: &mut [u8]) -> u32
     ensures { λ _. ⌜ now (bytes .exit) ≡ chipPowerLostCall (now (bytes .entry)) .bytes ⌝ }
 {
     if bytes.len() != records::CHIP_SIZE {
-        return answers::wrong_size();
+        return wrong_size();
     }
-    let c = records::load_chip(bytes);
-    let chip = chip::power_lost(c);
-    answers::settle_chip(bytes, Answer::Accepted, chip)
+    let member = bytes[0];
+    chip::lose_power(member, &mut bytes[3..911]);
+    0
 }
 
 #[no_mangle]
@@ -256,11 +310,11 @@ pub extern "C" fn lp586x_chip_feed(bytes: &mut [u8], list: &[u8]) -> u32
     ensures { λ _. ⌜ now (bytes .exit) ≡ chipFeedCall (now (bytes .entry)) (now (list .entry)) .bytes ⌝ }
 {
     if bytes.len() != records::CHIP_SIZE {
-        return answers::wrong_size();
+        return wrong_size();
     }
-    let c = records::load_chip(bytes);
-    let fed = chip::feed(c, list);
-    let answer = fed.answer;
-    let after = fed.chip;
-    answers::settle_chip(bytes, answer, after)
+    let member = bytes[0];
+    let bus = bytes[1];
+    let pins = bytes[2];
+    let answer = chip::feed_registers(member, bus, pins, &mut bytes[3..911], list);
+    map::answer_number(answer) as u32
 }

@@ -1,93 +1,78 @@
-// Records and chips as the bytes that a C program keeps.
+// Where the parts of a record and of a chip stand in the bytes that a C program keeps, and what Open puts there.
 ghost use mathlib.Core.Path.{_≡_};
-ghost use mathlib.Core.List.{[], _∷_};
-ghost use Prim.Native.Nat.{_+_, _≤_};
+ghost use mathlib.Core.List.{_∷_, _++_};
+ghost use Prim.Native.Nat.{_<_, _≤_};
 ghost use lib.ListN.{length, take, drop};
-ghost use lib.Seq.{paste};
-ghost use Rattle.capi.specs.Capi.{recordIn, recordBytes, chipIn, chipBytes};
-use chip::Chip;
-use host::Record;
+ghost use Rattle.host.specs.Record.{opened};
+ghost use Rattle.chip.specs.Chip.{newChip};
+ghost use Rattle.capi.specs.Capi.{headerIn, imageIn, recordBytes, chipBytes};
+use host::Header;
 
 pub(crate) const RECORD_SIZE: usize = 1819;
 
 pub(crate) const CHIP_SIZE: usize = 911;
 
-// The 908 bytes from a place on.
-fn image_at(bytes: &[u8], from: usize) -> [u8; 908]
-    requires { ⌜ from + 908 ≤ length (now bytes) ⌝ }
-    ensures { λ r. ⌜ r ≡ take 908 (drop from (now (bytes .entry))) ⌝ }
+pub(crate) fn header(bytes: &[u8]) -> Header
+    requires { ⌜ 3 ≤ length (now bytes) ⌝ }
+    ensures { λ r. ⌜ r ≡ headerIn (now (bytes .entry)) ⌝ }
+{
+    Header {
+        member: bytes[0],
+        bus: bytes[1],
+        pins: bytes[2],
+    }
+}
+
+// The 908 bytes of the chip image.
+pub(crate) fn image(bytes: &[u8]) -> [u8; 908]
+    requires { ⌜ length (now bytes) ≡ 1819 ⌝ }
+    ensures { λ r. ⌜ r ≡ imageIn (now (bytes .entry)) ⌝ }
 {
     let mut image = [0u8; 908];
     let mut i: usize = 0;
     while i < 908 {
-        image[i] = bytes[from + i];
+        image[i] = bytes[911 + i];
         i += 1;
     }
     image
 }
 
+pub(crate) fn put_image(bytes: &mut [u8], image: &[u8; 908])
+    requires { ⌜ (length (now bytes) ≡ 1819) × (length (now image) ≡ 908) ⌝ }
+    ensures { λ _. ⌜ now (bytes .exit) ≡ take 911 (now (bytes .entry)) ++ now (image .entry) ⌝ }
+{
+    let mut i: usize = 0;
+    while i < 908 {
+        bytes[911 + i] = image[i];
+        i += 1;
+    }
+}
+
 // The bytes before the images.
 fn put_front(bytes: &mut [u8], member: u8, bus: u8, pins: u8)
     requires { ⌜ 3 ≤ length (now bytes) ⌝ }
-    ensures { λ _. ⌜ now (bytes .exit) ≡ paste (now (bytes .entry)) 0 (member ∷ bus ∷ pins ∷ []) 3 ⌝ }
+    ensures { λ _. ⌜ now (bytes .exit) ≡ member ∷ bus ∷ pins ∷ drop 3 (now (bytes .entry)) ⌝ }
 {
     bytes[0] = member;
     bytes[1] = bus;
     bytes[2] = pins;
 }
 
-fn put_image(bytes: &mut [u8], at: usize, image: &[u8; 908])
-    requires { ⌜ (at + 908 ≤ length (now bytes)) × (length (now image) ≡ 908) ⌝ }
-    ensures { λ _. ⌜ now (bytes .exit) ≡ paste (now (bytes .entry)) at (now (image .entry)) 908 ⌝ }
+// A record that was opened: the front, and the member's reset values for both images.
+pub(crate) fn put_record(bytes: &mut [u8], member: usize, bus: usize, pins: usize)
+    requires { ⌜ (length (now bytes) ≡ 1819) × (member < 5) × (bus < 2) × (pins < 4) ⌝ }
+    ensures { λ _. ⌜ now (bytes .exit) ≡ recordBytes (opened member bus pins) ⌝ }
 {
-    let mut i: usize = 0;
-    while i < 908 {
-        bytes[at + i] = image[i];
-        i += 1;
-    }
+    put_front(bytes, member as u8, bus as u8, pins as u8);
+    images::put_reset(member, &mut bytes[3..911]); // the settings
+    images::put_reset(member, &mut bytes[911..1819]); // the chip image
 }
 
-pub(crate) fn load(bytes: &[u8]) -> Record
-    requires { ⌜ length (now bytes) ≡ 1819 ⌝ }
-    ensures { λ r. ⌜ r ≡ recordIn (now (bytes .entry)) ⌝ }
+// A chip that was just given power: the front, and the member's reset values.
+pub(crate) fn put_chip(bytes: &mut [u8], member: usize, bus: usize, pins: usize)
+    requires { ⌜ (length (now bytes) ≡ 911) × (member < 5) × (bus < 2) × (pins < 4) ⌝ }
+    ensures { λ _. ⌜ now (bytes .exit) ≡ chipBytes (newChip member bus pins) ⌝ }
 {
-    let settings = image_at(bytes, 3);
-    let image = image_at(bytes, 911);
-    Record {
-        member: bytes[0],
-        bus: bytes[1],
-        pins: bytes[2],
-        settings: settings,
-        image: image,
-    }
-}
-
-pub(crate) fn store(bytes: &mut [u8], state: Record)
-    requires { ⌜ length (now bytes) ≡ 1819 ⌝ }
-    ensures { λ _. ⌜ now (bytes .exit) ≡ recordBytes state ⌝ }
-{
-    put_front(bytes, state.member, state.bus, state.pins);
-    put_image(bytes, 3, &state.settings);
-    put_image(bytes, 911, &state.image);
-}
-
-pub(crate) fn load_chip(bytes: &[u8]) -> Chip
-    requires { ⌜ length (now bytes) ≡ 911 ⌝ }
-    ensures { λ r. ⌜ r ≡ chipIn (now (bytes .entry)) ⌝ }
-{
-    let registers = image_at(bytes, 3);
-    Chip {
-        member: bytes[0],
-        bus: bytes[1],
-        pins: bytes[2],
-        registers: registers,
-    }
-}
-
-pub(crate) fn store_chip(bytes: &mut [u8], chip: Chip)
-    requires { ⌜ length (now bytes) ≡ 911 ⌝ }
-    ensures { λ _. ⌜ now (bytes .exit) ≡ chipBytes chip ⌝ }
-{
-    put_front(bytes, chip.member, chip.bus, chip.pins);
-    put_image(bytes, 3, &chip.registers);
+    put_front(bytes, member as u8, bus as u8, pins as u8);
+    images::put_reset(member, &mut bytes[3..911]); // the registers
 }

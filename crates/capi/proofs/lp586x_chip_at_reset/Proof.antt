@@ -1,8 +1,8 @@
 -- `capi::lp586x_chip_at_reset` meets its contract.
 -- Assumes nothing.
-use mathlib.Core.Path.{ap}
+use native.Mathlib.Omega.{arith}
+use Rattle.capi.proofs.InPlace.{opened-inside, chip-wrong-size, at-reset-refused, at-reset-done}
 use borrow.Author.Needs.{needs}
-use Rattle.capi.proofs.Settled.{chip-wrong, chip-is}
 use Rattle.capi.proofs.lp586x_chip_at_reset.Statement.{statement}
 use Rattle.capi.proofs.lp586x_chip_at_reset.Tie as tie
 
@@ -10,22 +10,53 @@ wrong-size-requires : tie.Need-wrong-size-requires
 wrong-size-requires c κs = search needs
 
 returns : tie.Need-returns
-returns c = chip-wrong _ _ _ _ (c .before .if1 .taken) (c .wrong-size .ensures)
+returns c = chip-wrong-size _ _ _ _ (c .before .if1 .taken) (c .wrong-size .ensures)
 
-at-reset-requires : tie.Need-at-reset-requires
-at-reset-requires c κs = search needs
+open-answer-requires : tie.Need-open-answer-requires
+open-answer-requires c κs = search needs
 
-settle-chip-requires : tie.Need-settle-chip-requires
-settle-chip-requires c κs = search needs
+enum-told : tie.Need-enum-told
+enum-told c = search needs
+
+put-chip-requires : tie.Need-put-chip-requires
+put-chip-requires c κs = let inside = opened-inside _ _ _ _ (c .before .before .before .open-answer .ensures) (c .before .enum-told .given .1) in (omega arith, inside .0, inside .1, inside .2)
+
+enum-known-answer : tie.Need-enum-known-answer
+enum-known-answer c = search needs
+
+refusal-number-requires : tie.Need-refusal-number-requires
+refusal-number-requires c κs = search needs
+
+cast-result : tie.Need-cast-result
+cast-result c = search needs
 
 same-length : tie.Need-same-length
 same-length c = search needs
 
 returns-2 : tie.Need-returns-2
 returns-2 c =
-    let made = c .before .before .before .before .before in
-    chip-is _ _ _ _ _ _ _ (ap (λ x. x .answer) (made .at-reset .ensures)) (ap (λ x. x .chip) (made .at-reset .ensures)) (c .before .before .settle-chip .ensures)
+    let told = c .before .before .before .before in
+    let tested = told .before .before in
+    at-reset-done _ _ _ _ _ (tested .open-answer .ensures) (tested .before .if1 .left) _ (told .enum-told .given .1) (c .before .before .put-chip .ensures)
+
+returns-3 : tie.Need-returns-3
+returns-3 c =
+    let told = c .before .before in
+    let tested = told .before .before in
+    at-reset-refused _ _ _ _ _ (tested .open-answer .ensures) (tested .before .if1 .left) _ _ (told .answer .given .1) (c .refusal-number .ensures)
 
 pub lp586x-chip-at-reset-spec : {M : Type 1} → statement M
 lp586x-chip-at-reset-spec =
-    tie.close (tie.spec wrong-size-requires returns at-reset-requires settle-chip-requires same-length returns-2)
+    tie.close
+    (tie.spec
+    wrong-size-requires
+    returns
+    open-answer-requires
+    enum-told
+    put-chip-requires
+    enum-known-answer
+    refusal-number-requires
+    cast-result
+    same-length
+    returns-2
+    returns-3)

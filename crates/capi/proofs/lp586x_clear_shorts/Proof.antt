@@ -1,10 +1,11 @@
 -- `capi::lp586x_clear_shorts` meets its contract.
 -- Assumes nothing.
 use mathlib.Core.Path.{refl}
-use borrow.Author.Needs.{needs}
-use Rattle.capi.proofs.Settled.{fits-same, clear-fits}
-use Rattle.capi.specs.CapiLaws.{record-sized, record-unsized}
+use Rattle.capi.specs.CapiLaws.{record-unsized}
 use Rattle.capi.specs.Capi.{listAnswer, bufferAfter, stored}
+use Rattle.update.specs.Update.{clearingShorts}
+use Rattle.capi.proofs.Listed.{command-within, as-command, answer-is, buffer-is}
+use borrow.Author.Needs.{needs}
 use Rattle.capi.proofs.lp586x_clear_shorts.Statement.{statement}
 use Rattle.capi.proofs.lp586x_clear_shorts.Tie as tie
 
@@ -15,27 +16,66 @@ returns : tie.Need-returns
 unfolding listAnswer bufferAfter stored
 returns c = rw (record-unsized (c .before .before .before .before .args .bytes .now) (c .before .if1 .taken)) (c .wrong-size .ensures, (refl, (refl, refl)))
 
-load-requires : tie.Need-load-requires
-load-requires c κs = search needs
+header-requires : tie.Need-header-requires
+header-requires c κs = search needs
 
-clear-shorts-requires : tie.Need-clear-shorts-requires
-clear-shorts-requires c κs = search needs
+sub-clear-shorts-parts : tie.Need-sub-clear-shorts-parts
+sub-clear-shorts-parts c = search needs
+
+part-clear-shorts-parts-start : tie.Need-part-clear-shorts-parts-start
+part-clear-shorts-parts-start c = search needs
+
+part-clear-shorts-parts-end : tie.Need-part-clear-shorts-parts-end
+part-clear-shorts-parts-end c = search needs
+
+sub-clear-shorts-parts-2 : tie.Need-sub-clear-shorts-parts-2
+sub-clear-shorts-parts-2 c = search needs
+
+part-clear-shorts-parts-start-2 : tie.Need-part-clear-shorts-parts-start-2
+part-clear-shorts-parts-start-2 c = search needs
+
+part-clear-shorts-parts-end-2 : tie.Need-part-clear-shorts-parts-end-2
+part-clear-shorts-parts-end-2 c = search needs
+
+clear-shorts-parts-requires : tie.Need-clear-shorts-parts-requires
+clear-shorts-parts-requires c κs = search needs
 
 count-requires : tie.Need-count-requires
-count-requires c κs = fits-same _ _ (c .before .before .before .before .clear-shorts .ensures .0) (clear-fits _ _)
+count-requires c κs = command-within _ _ _ (c .before .before .before .before .clear-shorts-parts .ensures .0)
 
 same-length : tie.Need-same-length
 same-length c = search needs
 
 returns-2 : tie.Need-returns-2
-unfolding listAnswer bufferAfter
 returns-2 c =
-    let made = c .before .before .before .before .before in
-    let sized = made .before .before .before in
-    rw (← (made .before .before .load .ensures), ← (made .clear-shorts .ensures .0), record-sized (sized .before .before .before .args .bytes .now) (sized .if1 .left))
-    (c .count .ensures .0, (made .clear-shorts .ensures .1, (c .count .ensures .1 .0, c .count .ensures .1 .1)))
+    let sent = c .before .before .before .before .before in
+    let read = sent .before .before .before .before in
+    let begun = read .before .before .before .before in
+    let bytes = begun .args .bytes .now in
+    let buffer = begun .args .buffer .now in
+    let sized = read .before .if1 .left in
+    let header = read .header .ensures in
+    let made = sent .clear-shorts-parts .ensures in
+    let command = as-command _ 0x0A8 0x0F _ _ _ (made .0) in
+    rw (answer-is clearingShorts bytes sized _ header buffer _ command) (
+      c .count .ensures .0,
+      (buffer-is clearingShorts bytes sized _ header buffer _ command _ (made .1), (c .count .ensures .1 .0, c .count .ensures .1 .1)),
+    )
 
 pub lp586x-clear-shorts-spec : {M : Type 1} → statement M
 lp586x-clear-shorts-spec =
     tie.close
-    (tie.spec wrong-size-requires returns load-requires clear-shorts-requires count-requires same-length returns-2)
+    (tie.spec
+    wrong-size-requires
+    returns
+    header-requires
+    sub-clear-shorts-parts
+    part-clear-shorts-parts-start
+    part-clear-shorts-parts-end
+    sub-clear-shorts-parts-2
+    part-clear-shorts-parts-start-2
+    part-clear-shorts-parts-end-2
+    clear-shorts-parts-requires
+    count-requires
+    same-length
+    returns-2)

@@ -2,7 +2,7 @@
 -- Assumes nothing.
 use mathlib.Core.Path.{refl, sym, _∙_}
 use borrow.Author.Needs.{needs}
-use Rattle.capi.proofs.Settled.{bool-number}
+use Rattle.capi.proofs.InPlace.{bool-number}
 use Rattle.faults.specs.Faults.{answerNumbers}
 use Rattle.capi.proofs.lp586x_faults.Statement.{statement}
 use Rattle.capi.proofs.lp586x_faults.Tie as tie

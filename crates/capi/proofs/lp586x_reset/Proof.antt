@@ -1,10 +1,11 @@
 -- `capi::lp586x_reset` meets its contract.
 -- Assumes nothing.
 use mathlib.Core.Path.{refl}
-use borrow.Author.Needs.{needs}
-use Rattle.capi.proofs.Settled.{fits-same, reset-fits}
-use Rattle.capi.specs.CapiLaws.{record-sized, record-unsized}
+use Rattle.capi.specs.CapiLaws.{record-unsized}
 use Rattle.capi.specs.Capi.{listAnswer, listBytes, bufferAfter, stored}
+use Rattle.update.specs.Update.{resetting}
+use Rattle.capi.proofs.Listed.{command-within, answer-is, buffer-is, reset-back}
+use borrow.Author.Needs.{needs}
 use Rattle.capi.proofs.lp586x_reset.Statement.{statement}
 use Rattle.capi.proofs.lp586x_reset.Tie as tie
 
@@ -15,17 +16,44 @@ returns : tie.Need-returns
 unfolding listAnswer listBytes bufferAfter stored
 returns c = rw (record-unsized (c .before .before .before .before .args .bytes .now) (c .before .if1 .taken)) (c .wrong-size .ensures, (refl, (refl, (refl, refl))))
 
-load-requires : tie.Need-load-requires
-load-requires c κs = search needs
+header-requires : tie.Need-header-requires
+header-requires c κs = search needs
 
-reset-requires : tie.Need-reset-requires
-reset-requires c κs = search needs
+sub-reset-parts : tie.Need-sub-reset-parts
+sub-reset-parts c = search needs
 
-keep-requires : tie.Need-keep-requires
-keep-requires c κs = search needs
+part-reset-parts-start : tie.Need-part-reset-parts-start
+part-reset-parts-start c = search needs
+
+part-reset-parts-end : tie.Need-part-reset-parts-end
+part-reset-parts-end c = search needs
+
+sub-reset-parts-2 : tie.Need-sub-reset-parts-2
+sub-reset-parts-2 c = search needs
+
+part-reset-parts-start-2 : tie.Need-part-reset-parts-start-2
+part-reset-parts-start-2 c = search needs
+
+part-reset-parts-end-2 : tie.Need-part-reset-parts-end-2
+part-reset-parts-end-2 c = search needs
+
+reset-parts-requires : tie.Need-reset-parts-requires
+reset-parts-requires c κs = search needs
+
+sub-keep-reset : tie.Need-sub-keep-reset
+sub-keep-reset c = search needs
+
+part-keep-reset-start : tie.Need-part-keep-reset-start
+part-keep-reset-start c = search needs
+
+part-keep-reset-end : tie.Need-part-keep-reset-end
+part-keep-reset-end c = search needs
+
+keep-reset-requires : tie.Need-keep-reset-requires
+keep-reset-requires c κs = search needs
 
 count-requires : tie.Need-count-requires
-count-requires c κs = fits-same _ _ (c .before .before .before .before .before .before .before .before .reset .ensures .0) (reset-fits _ _)
+count-requires c κs = command-within _ _ _ (c .before .before .before .before .before .before .before .before .reset-parts .ensures .0)
 
 same-length : tie.Need-same-length
 same-length c = search needs
@@ -34,12 +62,23 @@ same-length-2 : tie.Need-same-length-2
 same-length-2 c = search needs
 
 returns-2 : tie.Need-returns-2
-unfolding listAnswer listBytes bufferAfter
 returns-2 c =
-    let made = c .before .before .before .before .before .before .before .before .before in
-    let sized = made .before .before .before .before in
-    rw (← (made .before .before .load .ensures), ← (made .reset .ensures .0), record-sized (sized .before .before .before .args .bytes .now) (sized .if1 .left))
-    (c .count .ensures .0, (c .before .before .before .before .before .keep .ensures, (made .reset .ensures .1, (c .count .ensures .1 .0, c .count .ensures .1 .1))))
+    let kept = c .before .before .before .before .before in
+    let sent = kept .before .before .before .before in
+    let read = sent .before .before .before .before .before in
+    let begun = read .before .before .before .before .before in
+    let bytes = begun .args .bytes .now in
+    let buffer = begun .args .buffer .now in
+    let sized = read .before .before .if1 .left in
+    let header = read .header .ensures in
+    let made = sent .reset-parts .ensures in
+    rw (answer-is resetting bytes sized _ header buffer _ (made .0)) (
+      c .count .ensures .0,
+      (
+        reset-back bytes sized _ header buffer _ _ (made .0) (kept .keep-reset .ensures),
+        (buffer-is resetting bytes sized _ header buffer _ (made .0) _ (made .1), (c .count .ensures .1 .0, c .count .ensures .1 .1)),
+      ),
+    )
 
 pub lp586x-reset-spec : {M : Type 1} → statement M
 lp586x-reset-spec =
@@ -47,9 +86,18 @@ lp586x-reset-spec =
     (tie.spec
     wrong-size-requires
     returns
-    load-requires
-    reset-requires
-    keep-requires
+    header-requires
+    sub-reset-parts
+    part-reset-parts-start
+    part-reset-parts-end
+    sub-reset-parts-2
+    part-reset-parts-start-2
+    part-reset-parts-end-2
+    reset-parts-requires
+    sub-keep-reset
+    part-keep-reset-start
+    part-keep-reset-end
+    keep-reset-requires
     count-requires
     same-length
     same-length-2

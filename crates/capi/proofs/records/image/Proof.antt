@@ -1,18 +1,18 @@
--- `capi::records::image_at` meets its contract.
+-- `capi::records::image` meets its contract.
 -- Assumes nothing.
 use mathlib.Core.Path.{refl}
 use Prim.Native.Nat.{_-_, _≤_}
 use native.Mathlib.Omega.{arith}
 use lib.ListN.{drop}
 use Rattle.capi.proofs.Copies.{Copied, copied-none, part-more, part-done}
-use Rattle.capi.proofs.records.image_at.Statement.{statement}
-use Rattle.capi.proofs.records.image_at.Tie as tie
+use Rattle.capi.proofs.records.image.Statement.{statement}
+use Rattle.capi.proofs.records.image.Tie as tie
 
 abbrev Inv-loop : tie.InvT-loop
-Inv-loop bytes from image₀ i₀ image i = (i ≤ 908) × Copied image₀ (drop from bytes) 0 i image
+Inv-loop bytes image₀ i₀ image i = (i ≤ 908) × Copied image₀ (drop 911 bytes) 0 i image
 
 abbrev μ-loop : tie.MeasureT-loop
-μ-loop bytes from image₀ i₀ image i = 908 - i
+μ-loop bytes image₀ i₀ image i = 908 - i
 
 loop-holds : tie.Need-loop-holds Inv-loop μ-loop
 loop-holds c = (omega arith, copied-none _ _ _)
@@ -33,16 +33,13 @@ loop-less : tie.Need-loop-less Inv-loop μ-loop
 loop-less c = omega arith
 
 loop-again : tie.Need-loop-again Inv-loop μ-loop
-loop-again c =
-    let start = c .before .before .before in
-    let turn = c .before .before in
-    (omega arith, part-more _ (start .args .bytes .now) _ (start .args .from) (turn .loop .i) (omega arith) (omega arith) (turn .loop .inv .1))
+loop-again c = (omega arith, part-more _ (c .before .before .before .args .bytes .now) _ 911 (c .before .before .loop .i) (omega arith) (omega arith) (c .before .before .loop .inv .1))
 
 returns : tie.Need-returns Inv-loop μ-loop
 returns c = part-done _ _ _ (c .before .loop .i) 908 (omega arith) refl (c .before .loop .inv .1)
 
-pub image-at-spec : {M : Type 1} → statement M
-image-at-spec =
+pub image-spec : {M : Type 1} → statement M
+image-spec =
     tie.close
     (tie.spec
     Inv-loop

@@ -1,12 +1,12 @@
--- `capi::answers::count` meets its contract.
+-- `capi::lists::count` meets its contract.
 -- Assumes nothing.
 use mathlib.Core.Path.{subst}
 use native.Mathlib.Omega.{arith}
-use borrow.Author.Needs.{needs}
-use Rattle.capi.proofs.Settled.{counted-listed, counted-short, counted-refused}
+use Rattle.capi.proofs.Listed.{counted-listed, counted-short, counted-refused}
 use Rattle.capi.specs.Capi.{Fits}
-use Rattle.capi.proofs.answers.count.Statement.{statement}
-use Rattle.capi.proofs.answers.count.Tie as tie
+use borrow.Author.Needs.{needs}
+use Rattle.capi.proofs.lists.count.Statement.{statement}
+use Rattle.capi.proofs.lists.count.Tie as tie
 
 enum-known-answer : tie.Need-enum-known-answer
 enum-known-answer c = search needs

@@ -1,12 +1,12 @@
--- `capi::answers::put_needed` meets its contract.
+-- `capi::lists::put_needed` meets its contract.
 -- Assumes nothing.
 use mathlib.Core.Path.{subst}
 use native.Mathlib.Omega.{arith}
-use borrow.Author.Needs.{needs}
-use Rattle.capi.proofs.Settled.{needed-listed, needed-short, needed-refused}
+use Rattle.capi.proofs.Listed.{needed-listed, needed-short, needed-refused}
 use Rattle.capi.specs.Capi.{Fits}
-use Rattle.capi.proofs.answers.put_needed.Statement.{statement}
-use Rattle.capi.proofs.answers.put_needed.Tie as tie
+use borrow.Author.Needs.{needs}
+use Rattle.capi.proofs.lists.put_needed.Statement.{statement}
+use Rattle.capi.proofs.lists.put_needed.Tie as tie
 
 enum-told : tie.Need-enum-told
 enum-told c = search needs

@@ -1,15 +1,16 @@
--- `capi::answers::keep` meets its contract.
+-- `capi::lists::keep` meets its contract.
 -- Assumes nothing.
+use mathlib.Core.Path.{_∙_}
+use Rattle.capi.proofs.Listed.{listed}
 use borrow.Author.Needs.{needs}
-use Rattle.capi.proofs.Settled.{kept-listed}
-use Rattle.capi.proofs.answers.keep.Statement.{statement}
-use Rattle.capi.proofs.answers.keep.Tie as tie
+use Rattle.capi.proofs.lists.keep.Statement.{statement}
+use Rattle.capi.proofs.lists.keep.Tie as tie
 
 enum-told : tie.Need-enum-told
 enum-told c = search needs
 
-store-requires : tie.Need-store-requires
-store-requires c κs = search needs
+put-image-requires : tie.Need-put-image-requires
+put-image-requires c κs = search needs
 
 enum-told-2 : tie.Need-enum-told-2
 enum-told-2 c = search needs
@@ -21,7 +22,7 @@ same-length : tie.Need-same-length
 same-length c = search needs
 
 returns : tie.Need-returns
-returns c = kept-listed _ _ _ _ _ (c .before .before .before .before .enum-told .given .1) (c .before .before .store .ensures)
+returns c = c .before .before .put-image .ensures ∙ simp (listed _ _ _ (c .before .before .before .before .enum-told .given .1))
 
 returns-2 : tie.Need-returns-2
 returns-2 c = search needs
@@ -34,7 +35,7 @@ keep-spec =
     tie.close
     (tie.spec
     enum-told
-    store-requires
+    put-image-requires
     enum-told-2
     enum-told-3
     same-length

@@ -1,0 +1,263 @@
+-- What a call stores into a part of the caller's bytes is what the call on the record, or on the chip, that they hold gives back.
+-- Assumes nothing.
+use mathlib.Core.Path.{_≡_, refl, sym, ap, _∙_}
+use mathlib.Core.Bool.{Bool, true, false, cond, _&&_}
+use mathlib.Core.List.{List, [], _∷_, _++_, append-assoc, append-nil}
+use Prim.Native.Nat.{ℕ, _+_, _<_, _≤_}
+use native.Mathlib.Nat.{min-eq-left}
+use native.Mathlib.Omega.{arith}
+use borrow.Author.Tests.{eq-eqb}
+use lib.Dec.{ltb, eqb}
+use borrow.Rule.Slice.PartMut.{same-len-mid}
+use lib.ListN.{length, getD, take, drop, length-take, length-drop, length-append, drop-of-length-le, take-append-drop}
+use lib.Seq.{take-all, take-at, drop-drop}
+use mir.Val.{boolByte}
+use Rattle.map.specs.declared.refusals.Answer.{Answer}
+use Rattle.map.specs.declared.refusals.Answer as answers
+use Rattle.map.specs.declared.refusals.Refusal.{Refusal}
+use Rattle.map.specs.declared.refusals.Refusal.the-variants.{Unsound}
+use Rattle.map.specs.Refusals.{refusalNumber, answerNumber, accepted, openAnswer, opens}
+use Rattle.map.specs.RefusalLaws.{opens-member, opens-bus, opens-pins}
+use Rattle.map.specs.Map.{resetOf}
+use Rattle.map.specs.ListLaws.{table-length}
+use Rattle.map.specs.Images.{resetImage}
+use Rattle.burst.specs.Burst.{transactions}
+use Rattle.calls.specs.declared.Setting.{Setting}
+use Rattle.host.specs.declared.Header.{Header}
+use Rattle.host.specs.declared.Changed.{Changed}
+use Rattle.host.specs.Record.{recordOf, opened, openHost, openOf, settingAnswer, putSetting, changedTo, settingOf, soundAnswer, powerLostOf}
+use Rattle.chip.specs.declared.Chip.{Chip}
+use Rattle.chip.specs.Chip.{chipOf, newChip, atResetOf, applyAll, feedAnswer, feedOf}
+use Rattle.capi.specs.Capi.{headerIn, settingsIn, imageIn, recordIn, recordBytes, chipIn, chipBytes, whenSized, settingNumber, settingBytes, chipNumber, chipAfter}
+use Rattle.capi.specs.CapiLaws.{front, settings-stored, image-stored, record-sized, record-unsized, chip-sized, chip-unsized}
+
+-- ---- parts of a list
+
+-- k bytes from `from` on are replaced
+abbrev pub putPart : ℕ → ℕ → List ℕ → List ℕ → List ℕ
+putPart from k bytes new = take from bytes ++ (new ++ drop k (drop from bytes))
+
+-- by themselves
+part-same : (from k : ℕ) (bytes : List ℕ) → putPart from k bytes (take k (drop from bytes)) ≡ bytes
+part-same from k bytes = ap (λ (l : List ℕ). take from bytes ++ l) (take-append-drop k (drop from bytes)) ∙ take-append-drop from bytes
+
+take-length : (k : ℕ) (l : List ℕ) → k ≤ length l → length (take k l) ≡ k
+take-length k l h = length-take k l ∙ min-eq-left h
+
+pub part-length : (from k : ℕ) (bytes : List ℕ) → from + k ≤ length bytes → length (take k (drop from bytes)) ≡ k
+part-length from k bytes h = take-length k (drop from bytes) (omega (arith, length-drop from bytes))
+
+-- ---- records
+
+-- a call that answers a number alone: what it answers, and the bytes that it leaves
+abbrev pub Done : List ℕ → Changed → ℕ → List ℕ → Type 0
+Done bytes x number new = (number ≡ settingNumber bytes x) × (new ≡ settingBytes bytes x)
+
+pub wrong-size : (bytes : List ℕ) (x : Changed) (number : ℕ) → (length bytes ≡ 1819 → ⊥) → number ≡ refusalNumber Unsound → Done bytes x number bytes
+unfolding settingNumber settingBytes whenSized
+wrong-size bytes x number n e = (rw (record-unsized bytes n) e, rw (record-unsized bytes n) refl)
+
+-- a call that was made on bytes of the right size
+done : (bytes new : List ℕ) (x : Changed) (number : ℕ) → length bytes ≡ 1819 → number ≡ answerNumber (x .answer) →
+    new ≡ cond (accepted (x .answer)) (recordBytes (x .host)) bytes → Done bytes x number new
+unfolding settingNumber settingBytes whenSized
+done bytes new x number h en eb = (rw (record-sized bytes h) en, rw (record-sized bytes h) eb)
+
+module _ (bytes : List ℕ) (h : length bytes ≡ 1819) where
+  -- the settings, or the image, are stored where the call was accepted
+  settings-put : (b : Bool) (new : List ℕ) →
+      putPart 3 908 bytes (cond b new (settingsIn bytes)) ≡ cond b (recordBytes (recordOf (headerIn bytes) (cond b new (settingsIn bytes)) (imageIn bytes))) bytes
+  settings-put true new = ap (λ (l : List ℕ). take 3 bytes ++ (new ++ l)) (drop-drop 908 3 bytes) ∙ sym (settings-stored bytes h new)
+  settings-put false new = part-same 3 908 bytes
+
+  pub image-put : (b : Bool) (new : List ℕ) →
+      putPart 911 908 bytes (cond b new (imageIn bytes)) ≡ cond b (recordBytes (recordOf (headerIn bytes) (settingsIn bytes) (cond b new (imageIn bytes)))) bytes
+  image-put true new =
+      ap (λ (l : List ℕ). take 911 bytes ++ l)
+      (ap (λ (l : List ℕ). new ++ l) (drop-drop 908 911 bytes ∙ drop-of-length-le bytes {i = 1819} (omega arith)) ∙ append-nil new)
+      ∙ sym (image-stored bytes h new)
+  image-put false new = part-same 911 908 bytes
+
+  module _ (header : Header) (eh : header ≡ headerIn bytes) (answer : Answer) (number : ℕ) (en : number ≡ answerNumber answer) where
+    pub setting-done : (q : Setting) (lent part : List ℕ) → answer ≡ settingAnswer (recordOf header (settingsIn bytes) (imageIn bytes)) q lent →
+        part ≡ cond (accepted answer) (putSetting (settingsIn bytes) q lent) (settingsIn bytes) →
+        Done bytes (settingOf (recordIn bytes) q lent) number (putPart 3 908 bytes part)
+    unfolding recordIn settingOf changedTo
+    setting-done q lent part ea ep =
+        let e : answer ≡ settingAnswer (recordOf (headerIn bytes) (settingsIn bytes) (imageIn bytes)) q lent =
+        ea ∙ ap (λ (x : Header). settingAnswer (recordOf x (settingsIn bytes) (imageIn bytes)) q lent) eh in
+        done bytes _ _ number h (en ∙ ap answerNumber e)
+        (ap (putPart 3 908 bytes) (ep ∙ ap (λ (x : Answer). cond (accepted x) (putSetting (settingsIn bytes) q lent) (settingsIn bytes)) e)
+        ∙ settings-put (accepted (settingAnswer (recordOf (headerIn bytes) (settingsIn bytes) (imageIn bytes)) q lent)) (putSetting (settingsIn bytes) q lent))
+
+    pub lost-done : (part : List ℕ) → answer ≡ soundAnswer (recordOf header (settingsIn bytes) (imageIn bytes)) →
+        part ≡ cond (accepted answer && eqb (length (imageIn bytes)) 908) (resetImage (header .member)) (imageIn bytes) →
+        Done bytes (powerLostOf (recordIn bytes)) number (putPart 911 908 bytes part)
+    unfolding recordIn powerLostOf
+    lost-done part ea ep =
+        let e : answer ≡ soundAnswer (recordOf (headerIn bytes) (settingsIn bytes) (imageIn bytes)) =
+        ea ∙ ap (λ (x : Header). soundAnswer (recordOf x (settingsIn bytes) (imageIn bytes))) eh in
+        let whole = eq-eqb (length (imageIn bytes)) 908 (part-length 911 908 bytes (omega arith)) in
+        done bytes _ _ number h (en ∙ ap answerNumber e)
+        (ap (putPart 911 908 bytes)
+        (ep ∙ ap (λ (b : Bool). cond (accepted answer && b) (resetImage (header .member)) (imageIn bytes)) whole ∙ and-true (accepted answer)
+        ∙ ap (λ (x : Header). cond (accepted answer) (resetImage (x .member)) (imageIn bytes)) eh
+        ∙ ap (λ (x : Answer). cond (accepted x) (resetImage (headerIn bytes .member)) (imageIn bytes)) e)
+        ∙ image-put (accepted (soundAnswer (recordOf (headerIn bytes) (settingsIn bytes) (imageIn bytes)))) (resetImage (headerIn bytes .member)))
+      where
+        and-true : (b : Bool) → cond (b && true) (resetImage (header .member)) (imageIn bytes) ≡ cond b (resetImage (header .member)) (imageIn bytes)
+        and-true true = refl
+        and-true false = refl
+
+-- ---- Open
+
+pub opened-inside : (m b p : ℕ) (answer : Answer) → answer ≡ openAnswer m b p → answer ≡ answers.the-variants.Accepted → (m < 5) × (b < 2) × (p < 4)
+unfolding opens
+opened-inside m b p answer e a =
+    let o : opens m b p ≡ true = ap accepted (sym e ∙ a) in (opens-member m b p o, opens-bus m b p o, opens-pins m b p o)
+
+module _ (m b p : ℕ) (bytes : List ℕ) (answer : Answer) (e : answer ≡ openAnswer m b p) (h : length bytes ≡ 1819) where
+  pub open-refused : (x : Refusal) (number : ℕ) → answer ≡ answers.the-variants.Refused x → number ≡ refusalNumber x → Done bytes (openOf m b p) number bytes
+  unfolding openOf
+  open-refused x number a en =
+      let q : openAnswer m b p ≡ answers.the-variants.Refused x = sym e ∙ a in
+      done bytes bytes (openOf m b p) number h (rw q en) (rw q refl)
+
+  pub open-done : (new : List ℕ) → answer ≡ answers.the-variants.Accepted → new ≡ recordBytes (opened m b p) → Done bytes (openOf m b p) 0 new
+  unfolding openOf openHost
+  open-done new a en =
+      let q : openAnswer m b p ≡ answers.the-variants.Accepted = sym e ∙ a in
+      done bytes new (openOf m b p) 0 h (rw q refl) (rw q en)
+
+-- a list of n, of which the first `at` are xs
+record Front (n at : ℕ) (xs l : List ℕ) : Type 0 where
+  size : length l ≡ n
+  is : take at l ≡ xs
+
+front-first : (n m b p : ℕ) (bytes new : List ℕ) → 3 ≤ n → length bytes ≡ n → new ≡ m ∷ b ∷ p ∷ drop 3 bytes → Front n 3 (m ∷ b ∷ p ∷ []) new
+front-first n m b p bytes new l h e = record { size = ap length e ∙ omega (arith, length-drop 3 bytes); is = ap (take 3) e }
+
+-- the next k are put
+front-more : (n at k : ℕ) (xs s old new : List ℕ) → at + k ≤ n → length s ≡ k → Front n at xs old → new ≡ putPart at k old s → Front n (at + k) (xs ++ s) new
+front-more n at k xs s old new l e f q = record {
+  size = ap length q ∙ same-len-mid at k old s (e ∙ sym (part-length at k old (omega (arith, f .size)))) ∙ f .size;
+  is =
+      ap (take (at + k)) (q ∙ sym (append-assoc (take at old) s (drop k (drop at old))))
+      ∙ take-at (take at old ++ s) (drop k (drop at old)) (at + k) (length-append (take at old) s ∙ sizes)
+      ∙ ap (λ (x : List ℕ). x ++ s) (f .is);
+}
+  where
+    sizes : length (take at old) + length s ≡ at + k
+    sizes = omega (arith, e, take-length at old (omega (arith, f .size)))
+
+front-all : (n : ℕ) (xs l : List ℕ) → Front n n xs l → l ≡ xs
+front-all n xs l f = sym (take-all n l (omega (arith, f .size))) ∙ f .is
+
+-- the reset values of a member fill a part of 908 bytes
+reset-put : (m at : ℕ) (old part : List ℕ) → at + 908 ≤ length old →
+    part ≡ cond (eqb (length (take 908 (drop at old))) 908) (resetImage m) (take 908 (drop at old)) → part ≡ resetImage m
+reset-put m at old part h e = e ∙ rw (eq-eqb (length (take 908 (drop at old))) 908 (part-length at 908 old h)) refl
+
+reset-length : (m : ℕ) → length (resetImage m) ≡ 908
+unfolding resetImage
+reset-length m = table-length (resetOf m) 908
+
+module _ (m b p : ℕ) (bytes first : List ℕ) (e : first ≡ m ∷ b ∷ p ∷ drop 3 bytes) where
+  images-put : (n : ℕ) (part : List ℕ) → 911 ≤ n → length bytes ≡ n →
+      part ≡ cond (eqb (length (take 908 (drop 3 first))) 908) (resetImage m) (take 908 (drop 3 first)) →
+      Front n 911 ((m ∷ b ∷ p ∷ []) ++ resetImage m) (putPart 3 908 first part)
+  images-put n part l h ep =
+      let f = front-first n m b p bytes first (omega arith) h e in
+      front-more n 3 908 (m ∷ b ∷ p ∷ []) (resetImage m) first _ l (reset-length m) f
+      (ap (putPart 3 908 first) (reset-put m 3 first part (omega (arith, f .size)) ep))
+
+  pub chip-put : (part : List ℕ) → length bytes ≡ 911 →
+      part ≡ cond (eqb (length (take 908 (drop 3 first))) 908) (resetImage m) (take 908 (drop 3 first)) →
+      putPart 3 908 first part ≡ chipBytes (newChip m b p)
+  unfolding chipBytes newChip
+  chip-put part h ep = front-all 911 _ _ (images-put 911 part (omega arith) h ep)
+
+  pub record-put : (part last : List ℕ) → length bytes ≡ 1819 →
+      part ≡ cond (eqb (length (take 908 (drop 3 first))) 908) (resetImage m) (take 908 (drop 3 first)) →
+      last ≡ cond (eqb (length (take 908 (drop 911 (putPart 3 908 first part)))) 908) (resetImage m) (take 908 (drop 911 (putPart 3 908 first part))) →
+      putPart 911 908 (putPart 3 908 first part) last ≡ recordBytes (opened m b p)
+  unfolding recordBytes opened
+  record-put part last h ep el =
+      let f = images-put 1819 part (omega arith) h ep in
+      front-all 1819 _ _
+      (front-more 1819 911 908 ((m ∷ b ∷ p ∷ []) ++ resetImage m) (resetImage m) (putPart 3 908 first part) _ (omega arith) (reset-length m) f
+      (ap (putPart 911 908 (putPart 3 908 first part)) (reset-put m 911 (putPart 3 908 first part) last (omega (arith, f .size)) el)))
+
+-- ---- chips
+
+abbrev pub ChipDone : List ℕ → Answer → Chip → ℕ → List ℕ → Type 0
+ChipDone bytes answer c number new = (number ≡ chipNumber bytes answer) × (new ≡ chipAfter bytes answer c)
+
+pub chip-wrong-size : (bytes : List ℕ) (answer : Answer) (c : Chip) (number : ℕ) → (length bytes ≡ 911 → ⊥) → number ≡ refusalNumber Unsound →
+    ChipDone bytes answer c number bytes
+unfolding chipNumber chipAfter whenSized
+chip-wrong-size bytes answer c number n e = (rw (chip-unsized bytes n) e, rw (chip-unsized bytes n) refl)
+
+chip-done : (bytes new : List ℕ) (answer : Answer) (c : Chip) (number : ℕ) → length bytes ≡ 911 → number ≡ answerNumber answer →
+    new ≡ cond (accepted answer) (chipBytes c) bytes → ChipDone bytes answer c number new
+unfolding chipNumber chipAfter whenSized
+chip-done bytes new answer c number h en eb = (rw (chip-sized bytes h) en, rw (chip-sized bytes h) eb)
+
+module _ (m b p : ℕ) (bytes : List ℕ) (answer : Answer) (e : answer ≡ openAnswer m b p) (h : length bytes ≡ 911) where
+  pub at-reset-refused : (x : Refusal) (number : ℕ) → answer ≡ answers.the-variants.Refused x → number ≡ refusalNumber x →
+      ChipDone bytes (atResetOf m b p .answer) (atResetOf m b p .chip) number bytes
+  unfolding atResetOf
+  at-reset-refused x number a en =
+      let q : openAnswer m b p ≡ answers.the-variants.Refused x = sym e ∙ a in
+      chip-done bytes bytes (atResetOf m b p .answer) (atResetOf m b p .chip) number h (rw q en) (rw q refl)
+
+  pub at-reset-done : (new : List ℕ) → answer ≡ answers.the-variants.Accepted → new ≡ chipBytes (newChip m b p) →
+      ChipDone bytes (atResetOf m b p .answer) (atResetOf m b p .chip) 0 new
+  unfolding atResetOf opens
+  at-reset-done new a en =
+      let q : openAnswer m b p ≡ answers.the-variants.Accepted = sym e ∙ a in
+      chip-done bytes new (atResetOf m b p .answer) (atResetOf m b p .chip) 0 h (rw q refl) (rw q en)
+
+module _ (bytes : List ℕ) (h : length bytes ≡ 911) where
+  -- the registers are stored behind the front
+  registers-put : (registers : List ℕ) →
+      putPart 3 908 bytes registers ≡ chipBytes (chipOf (getD bytes 0 0) (getD bytes 1 0) (getD bytes 2 0) registers)
+  unfolding chipBytes
+  registers-put registers =
+      ap (λ (l : List ℕ). take 3 bytes ++ l)
+      (ap (λ (l : List ℕ). registers ++ l) (drop-drop 908 3 bytes ∙ drop-of-length-le bytes {i = 911} (omega arith)) ∙ append-nil registers)
+      ∙ front bytes registers (omega arith)
+
+  pub chip-lost-done : (part : List ℕ) →
+      part ≡ cond (eqb (length (take 908 (drop 3 bytes))) 908) (Rattle.chip.specs.Chip.powerLostOf (chipOf (getD bytes 0 0) 0 0 (take 908 (drop 3 bytes))) .registers) (take 908 (drop 3 bytes)) →
+      ChipDone bytes answers.the-variants.Accepted (Rattle.chip.specs.Chip.powerLostOf (chipIn bytes)) 0 (putPart 3 908 bytes part)
+  unfolding chipIn Rattle.chip.specs.Chip.powerLostOf
+  chip-lost-done part e =
+      let lost : List ℕ = cond (ltb (getD bytes 0 0) 5) (resetImage (getD bytes 0 0)) (take 908 (drop 3 bytes)) in
+      let whole : part ≡ lost = e ∙ ap (λ (b : Bool). cond b lost (take 908 (drop 3 bytes))) (eq-eqb (length (take 908 (drop 3 bytes))) 908 (part-length 3 908 bytes (omega arith))) in
+      chip-done bytes _ answers.the-variants.Accepted _ 0 h refl (ap (putPart 3 908 bytes) whole ∙ registers-put lost)
+
+  pub feed-done : (list part : List ℕ) (answer : Answer) (number : ℕ) →
+      answer ≡ feedAnswer (chipOf (getD bytes 0 0) (getD bytes 1 0) (getD bytes 2 0) (take 908 (drop 3 bytes))) list →
+      part ≡ feedOf (chipOf (getD bytes 0 0) (getD bytes 1 0) (getD bytes 2 0) (take 908 (drop 3 bytes))) list .chip .registers →
+      number ≡ answerNumber answer →
+      ChipDone bytes (feedOf (chipIn bytes) list .answer) (feedOf (chipIn bytes) list .chip) number (putPart 3 908 bytes part)
+  unfolding chipIn feedOf
+  feed-done list part answer number ea ep en =
+      chip-done bytes _ _ _ number h (en ∙ ap answerNumber ea)
+      (ap (putPart 3 908 bytes) ep ∙ kept (accepted (feedAnswer c list)) (applyAll (c .member) (c .bus) (c .pins) (c .registers) (transactions list)))
+    where
+      c : Chip
+      c = chipOf (getD bytes 0 0) (getD bytes 1 0) (getD bytes 2 0) (take 908 (drop 3 bytes))
+
+      kept : (t : Bool) (new : List ℕ) → putPart 3 908 bytes (cond t new (take 908 (drop 3 bytes))) ≡
+          cond t (chipBytes (chipOf (getD bytes 0 0) (getD bytes 1 0) (getD bytes 2 0) (cond t new (take 908 (drop 3 bytes))))) bytes
+      kept true new = registers-put new
+      kept false new = part-same 3 908 bytes
+
+-- ---- faults
+
+-- a bool as a number
+pub bool-number : (b : Bool) → boolByte b ≡ cond b 1 0
+bool-number true = refl
+bool-number false = refl

@@ -1,0 +1,145 @@
+-- What a call answers and stores that writes a list.
+-- Assumes nothing.
+use mathlib.Core.Path.{_≡_, refl, sym, ap, _∙_}
+use mathlib.Core.Bool.{Bool, true, false, cond, _&&_}
+use mathlib.Core.List.{List, _++_}
+use Prim.Native.Nat.{ℕ}
+use native.Mathlib.Omega.{arith}
+use borrow.Author.Tests.{eq-eqb}
+use lib.Dec.{leb, eqb}
+use lib.ListN.{length, take}
+use Rattle.map.specs.declared.refusals.Refusal.{Refusal}
+use Rattle.map.specs.declared.refusals.Refusal.the-variants.{BufferShort, Unsound}
+use Rattle.map.specs.Refusals.{refusalNumber}
+use Rattle.map.specs.Images.{resetImage}
+use Rattle.burst.specs.Burst.{busBytes}
+use Rattle.host.specs.declared.Header.{Header}
+use Rattle.host.specs.declared.Record.{Record}
+use Rattle.host.specs.Record.{recordOf, soundOf}
+use Rattle.update.specs.declared.ListAnswer.{ListAnswer}
+use Rattle.update.specs.declared.ListAnswer.the-variants.{Listed, Short, Refused}
+use Rattle.update.specs.Update.{isListed, listNumber, listSize, Sending, sendAnswer, sendOf, sendBuffer, writesOf, updateAnswer, command, resetting, commandAnswer}
+use Rattle.update.specs.SendLaws.{command-answers}
+use Rattle.update.specs.BoundLaws.{bus-most, writes-few, size-most}
+use Rattle.capi.specs.Capi.{headerIn, settingsIn, imageIn, recordIn, recordBytes, listAnswer, listBytes, bufferAfter, stored, nAfter, tAfter, neededAfter, Fits}
+use Rattle.capi.specs.CapiLaws.{image-stored, record-sized, refused-stores}
+use Rattle.capi.proofs.InPlace.{putPart, part-length, image-put}
+
+-- ---- lists are short
+
+module _ (r : Record) (size : ℕ) where
+  update-fits : Fits (updateAnswer r size)
+  unfolding sendAnswer
+  update-fits = go (soundOf r) refl (leb (listSize (writesOf r)) size)
+    where
+      go : (s : Bool) → soundOf r ≡ s → (b : Bool) →
+          Fits (cond s (cond b (Listed (length (writesOf r)) (busBytes (writesOf r))) (Short (listSize (writesOf r)))) (Refused Unsound))
+      go true e true = (omega (arith, bus-most r e, writes-few r e), omega (arith, bus-most r e))
+      go true e false = omega (arith, size-most r e)
+      go false e b = tt
+
+  command-fits : Fits (commandAnswer r size)
+  unfolding sendAnswer
+  command-fits = go (soundOf r) (leb 9 size)
+    where
+      go : (s b : Bool) → Fits (cond s (cond b (Listed 1 3) (Refused BufferShort)) (Refused Unsound))
+      go true true = (omega arith, omega arith)
+      go true false = tt
+      go false b = tt
+
+  pub update-within : (answer : ListAnswer) → answer ≡ updateAnswer r size → Fits answer
+  update-within answer e = rw e update-fits
+
+  pub command-within : (answer : ListAnswer) → answer ≡ commandAnswer r size → Fits answer
+  command-within answer e = rw e command-fits
+
+-- every command answers alike
+pub as-command : (r : Record) (a v : ℕ) (image : List ℕ) (size : ℕ) (answer : ListAnswer) → answer ≡ commandAnswer r size → answer ≡ sendAnswer r (command a v image) size
+as-command r a v image size answer e = e ∙ sym (command-answers r a v image size)
+
+-- ---- a call that sends, on bytes of the right size
+
+module _ (f : Record → Sending) (bytes : List ℕ) (h : length bytes ≡ 1819) (header : Header) (eh : header ≡ headerIn bytes) (buffer : List ℕ) (answer : ListAnswer) where
+  -- the record, by its parts
+  abbrev held : Header → Record
+  held x = recordOf x (settingsIn bytes) (imageIn bytes)
+
+  module _ (ea : answer ≡ sendAnswer (held header) (f (held header)) (length buffer)) where
+    answers : answer ≡ sendAnswer (recordIn bytes) (f (recordIn bytes)) (length buffer)
+    unfolding recordIn
+    answers = ea ∙ ap (λ (x : Header). sendAnswer (held x) (f (held x)) (length buffer)) eh
+
+    pub answer-is : listAnswer bytes (sendOf (recordIn bytes) (f (recordIn bytes)) (length buffer)) ≡ answer
+    unfolding listAnswer sendOf
+    answer-is = rw (record-sized bytes h) (sym answers)
+
+    pub buffer-is : (new : List ℕ) → new ≡ sendBuffer (held header) (f (held header)) buffer → new ≡ bufferAfter bytes (sendBuffer (recordIn bytes) (f (recordIn bytes)) buffer) buffer
+    unfolding bufferAfter recordIn
+    buffer-is new e = e ∙ ap (λ (x : Header). sendBuffer (held x) (f (held x)) buffer) eh ∙ rw (record-sized bytes h) refl
+
+    -- the image that was sent, or nothing
+    sent : listBytes bytes (sendOf (recordIn bytes) (f (recordIn bytes)) (length buffer)) ≡
+        cond (isListed answer) (recordBytes (recordOf (headerIn bytes) (settingsIn bytes) (cond (isListed answer) (f (recordIn bytes) .image) (imageIn bytes)))) bytes
+    unfolding listBytes sendOf recordIn
+    sent = rw (answer-is) (rw (sym answers) refl)
+
+    -- an image of the caller's own was changed, and then stored where a list was written
+    pub copied-back : (image new : List ℕ) → image ≡ sendOf (held header) (f (held header)) (length buffer) .host .image →
+        new ≡ cond (isListed answer) (take 911 bytes ++ image) bytes → new ≡ listBytes bytes (sendOf (recordIn bytes) (f (recordIn bytes)) (length buffer))
+    unfolding sendOf recordIn
+    copied-back image new ei en =
+        en ∙ ap (λ (l : List ℕ). cond (isListed answer) (take 911 bytes ++ l) bytes)
+        (ei ∙ ap (λ (x : Header). cond (isListed (sendAnswer (held x) (f (held x)) (length buffer))) (f (held x) .image) (imageIn bytes)) eh
+        ∙ ap (λ (x : ListAnswer). cond (isListed x) (f (recordIn bytes) .image) (imageIn bytes)) (sym answers))
+        ∙ choice (isListed answer) (cond (isListed answer) (f (recordIn bytes) .image) (imageIn bytes)) ∙ sym sent
+      where
+        choice : (b : Bool) (l : List ℕ) → cond b (take 911 bytes ++ l) bytes ≡ cond b (recordBytes (recordOf (headerIn bytes) (settingsIn bytes) l)) bytes
+        choice true l = sym (image-stored bytes h l)
+        choice false l = refl
+
+-- a Reset puts its image into its part of the bytes
+pub reset-back : (bytes : List ℕ) (h : length bytes ≡ 1819) (header : Header) (eh : header ≡ headerIn bytes) (buffer part : List ℕ) (answer : ListAnswer) →
+    (ea : answer ≡ commandAnswer (recordOf header (settingsIn bytes) (imageIn bytes)) (length buffer)) →
+    part ≡ cond (isListed answer && eqb (length (imageIn bytes)) 908) (resetImage (header .member)) (imageIn bytes) →
+    putPart 911 908 bytes part ≡ listBytes bytes (sendOf (recordIn bytes) (resetting (recordIn bytes)) (length buffer))
+unfolding recordIn
+reset-back bytes h header eh buffer part answer ea ep =
+    ap (putPart 911 908 bytes)
+    (ep ∙ ap (λ (b : Bool). cond (isListed answer && b) (resetImage (header .member)) (imageIn bytes)) (eq-eqb (length (imageIn bytes)) 908 (part-length 911 908 bytes (omega arith)))
+    ∙ whole (isListed answer) ∙ ap (λ (x : Header). cond (isListed answer) (resetImage (x .member)) (imageIn bytes)) eh)
+    ∙ image-put bytes h (isListed answer) (resetImage (headerIn bytes .member))
+    ∙ sym (sent resetting bytes h header eh buffer answer ea)
+  where
+    whole : (b : Bool) → cond (b && true) (resetImage (header .member)) (imageIn bytes) ≡ cond b (resetImage (header .member)) (imageIn bytes)
+    whole true = refl
+    whole false = refl
+
+-- ---- what a list's answer stores
+
+pub listed : (answer : ListAnswer) (n t : ℕ) → answer ≡ Listed n t → isListed answer ≡ true
+listed answer n t e = ap isListed e
+
+abbrev pub Counted : ListAnswer → ℕ → ℕ → ℕ → ℕ → ℕ → Type 0
+Counted answer n t number new-n new-t = (number ≡ listNumber answer) × ((new-n ≡ nAfter answer n) × (new-t ≡ tAfter answer t))
+
+pub counted-listed : (answer : ListAnswer) (n t new-n new-t : ℕ) → answer ≡ Listed new-n new-t → Counted answer n t 0 new-n new-t
+unfolding stored
+counted-listed answer n t new-n new-t e = rw e (refl, (refl, refl))
+
+pub counted-short : (answer : ListAnswer) (n t number needed : ℕ) → answer ≡ Short needed → number ≡ refusalNumber BufferShort → Counted answer n t number n t
+unfolding stored
+counted-short answer n t number needed e h = rw e (h, (refl, refl))
+
+pub counted-refused : (answer : ListAnswer) (n t number : ℕ) (refusal : Refusal) → answer ≡ Refused refusal → number ≡ refusalNumber refusal → Counted answer n t number n t
+counted-refused answer n t number refusal e h = rw e (h, (sym (refused-stores 0 0 refusal n), sym (refused-stores 0 1 refusal t)))
+
+pub needed-listed : (answer : ListAnswer) (needed n t : ℕ) → answer ≡ Listed n t → needed ≡ neededAfter answer needed
+unfolding stored
+needed-listed answer needed n t e = rw e refl
+
+pub needed-short : (answer : ListAnswer) (needed new : ℕ) → answer ≡ Short new → new ≡ neededAfter answer needed
+unfolding stored
+needed-short answer needed new e = rw e refl
+
+pub needed-refused : (answer : ListAnswer) (needed : ℕ) (refusal : Refusal) → answer ≡ Refused refusal → needed ≡ neededAfter answer needed
+needed-refused answer needed refusal e = rw e (sym (refused-stores (refusalNumber BufferShort) 0 refusal needed))

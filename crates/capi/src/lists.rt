@@ -1,0 +1,71 @@
+// What a call stores that writes a list: the chip image, n and t, and the length needed.
+ghost use mathlib.Core.Path.{_≡_};
+ghost use mathlib.Core.Bool.{cond, _&&_};
+ghost use mathlib.Core.List.{_++_};
+ghost use lib.Dec.{eqb};
+ghost use lib.ListN.{length, take};
+ghost use Rattle.map.specs.Images.{resetImage};
+ghost use Rattle.update.specs.Update.{isListed, listNumber};
+ghost use Rattle.capi.specs.Capi.{nAfter, tAfter, neededAfter, Fits};
+use crate::records;
+use host::Header;
+use map::Refusal;
+use update::ListAnswer;
+
+// The image that an update leaves.
+pub(crate) fn keep(answer: ListAnswer, bytes: &mut [u8], image: &[u8; 908])
+    requires { ⌜ (length (now bytes) ≡ 1819) × (length (now image) ≡ 908) ⌝ }
+    ensures { λ _. ⌜ now (bytes .exit) ≡ cond (isListed answer) (take 911 (now (bytes .entry)) ++ now (image .entry)) (now (bytes .entry)) ⌝ }
+{
+    match answer {
+        ListAnswer::Listed { n: _, t: _ } => records::put_image(bytes, image),
+        ListAnswer::Short { needed: _ } => {} // nothing was written
+        ListAnswer::Refused(_) => {} // the record is unsound
+    }
+}
+
+// The image that a Reset leaves.
+pub(crate) fn keep_reset(answer: ListAnswer, header: Header, image: &mut [u8])
+    ensures { λ _. ⌜ now (image .exit) ≡ cond (isListed answer && eqb (length (now (image .entry))) 908) (resetImage (header .member)) (now (image .entry)) ⌝ }
+{
+    match answer {
+        ListAnswer::Listed { n: _, t: _ } => images::put_reset(header.member as usize, image),
+        ListAnswer::Short { needed: _ } => {}
+        ListAnswer::Refused(_) => {}
+    }
+}
+
+// The number of a list's answer, and its n and t.
+pub(crate) fn count(answer: ListAnswer, n: &mut u32, t: &mut u32) -> u32
+    requires { ⌜ Fits answer ⌝ }
+    ensures { λ r. ⌜ r ≡ listNumber answer ⌝ }
+    ensures { λ _. ⌜ now (n .exit) ≡ nAfter answer (now (n .entry)) ⌝ }
+    ensures { λ _. ⌜ now (t .exit) ≡ tAfter answer (now (t .entry)) ⌝ }
+{
+    match answer {
+        ListAnswer::Listed {
+            n: writes,
+            t: total,
+        } => {
+            *n = writes as u32;
+            *t = total as u32;
+            0
+        }
+        ListAnswer::Short { needed: _ } => map::refusal_number(Refusal::BufferShort) as u32,
+        ListAnswer::Refused(refusal) => map::refusal_number(refusal) as u32,
+    }
+}
+
+// The length that a short buffer lacks.
+pub(crate) fn put_needed(answer: ListAnswer, needed: &mut u32)
+    requires { ⌜ Fits answer ⌝ }
+    ensures { λ _. ⌜ now (needed .exit) ≡ neededAfter answer (now (needed .entry)) ⌝ }
+{
+    match answer {
+        ListAnswer::Listed { n: _, t: _ } => {}
+        ListAnswer::Short { needed: size } => {
+            *needed = size as u32;
+        }
+        ListAnswer::Refused(_) => {}
+    }
+}
