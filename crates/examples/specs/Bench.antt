@@ -3,7 +3,7 @@
 use mathlib.Core.Path.{_≡_, refl}
 use mathlib.Core.List.{List, [], _∷_}
 use Prim.Native.Nat.{ℕ}
-use lib.ListN.{length, getD, set, replicate}
+use lib.ListN.{getD, set, replicate}
 use Rattle.map.specs.declared.dots.Field.the-variants.{Current}
 use Rattle.map.specs.declared.dots.Place.the-variants.{At}
 use Rattle.map.specs.Refusals.{answerNumber, openAnswer, opens}
@@ -13,25 +13,28 @@ use Rattle.map.specs.Images.{okByte, okAt, imageOk, resetImage}
 use Rattle.burst.specs.Burst.{byteAt, size16, nOf, lengthsFrom, lengths, cutFrom, transactions, headFirst, headSecond, transactionOf, listOf, encode}
 use Rattle.plan.specs.Plan.{scan, plan}
 use Rattle.plan.specs.Update.{updateFor}
+use Rattle.dots.specs.Dots.{wideOf, topLevel, putLevel}
+use Rattle.calls.specs.declared.Setting.{Setting}
+use Rattle.calls.specs.declared.Setting.the-variants.{Register, Lamp}
+use Rattle.calls.specs.declared.Request.the-variants.{Set, Update}
 use Rattle.host.specs.declared.Record.{Record}
-use Rattle.host.specs.Record.{recordOf, soundOf, whenSound, settled, opened, openState, openOf, registerAnswer, registerOf, wideOf, topLevel, whenDot, lampAnswer, putLevel, lampOf}
+use Rattle.host.specs.Record.{headerOf, recordOf, soundOf, mayWrite, whenSound, opened, openHost, openOf, registerAnswer, whenDot, lampAnswer, argumentsAnswer, settingAnswer, putSetting, changedTo, settingOf, lampOf}
 use Rattle.host.specs.SoundLaws.{is-sound, open-sound}
-use Rattle.update.specs.Update.{over, writesOf, updateAnswer, updateBuffer, commandWrite, commandAnswer, commandBuffer, resetBuffer, clearOpensBuffer, clearShortsBuffer}
-use Rattle.history.specs.declared.Request.the-variants.{Register, Lamp, Update}
-use Rattle.history.specs.Step.{lentAfter}
+use Rattle.update.specs.Update.{over, sendAnswer, sendBuffer, writesOf, commandWrite, command, resetBuffer, clearOpensBuffer, clearShortsBuffer}
+use Rattle.history.specs.Step.{stepOf}
 use Rattle.history.specs.History.{Call, worldAfter}
+
+-- a setting, with nothing lent
+abbrev setting : Setting → Call
+setting q = record { request = Set q; lent = [] }
 
 -- "000h = 01h, 001h = 58h, Lamp (0, 2, 40h)"
 abbrev calls : List Call
-calls =
-    record { request = Register 0x000 0x01; lent = [] }
-    ∷ record { request = Register 0x001 0x58; lent = [] }
-    ∷ record { request = Lamp 0 2 0x40; lent = [] }
-    ∷ []
+calls = setting (Register 0x000 0x01) ∷ setting (Register 0x001 0x58) ∷ setting (Lamp 0 2 0x40) ∷ []
 
 -- the buffer after an Update that follows on these calls
 abbrev updated : ℕ → List ℕ
-updated bus = lentAfter (worldAfter 0 bus 0 calls) Update (replicate 19 0)
+updated bus = stepOf (worldAfter 0 bus 0 calls) Update (replicate 19 0) .lent
 
 -- "03 00 09 00 03 00 03 00 03 00 80 00 01 80 01 58 84 02 40 (hexadecimal)"
 abbrev benchList : List ℕ
@@ -45,7 +48,7 @@ benchTransactions = (0x00 ∷ 0x20 ∷ 0x01 ∷ []) ∷ (0x00 ∷ 0x60 ∷ 0x58 
 
 -- an LP5860 that is on, of which only the registers 202h and a differ
 abbrev differing : ℕ → Record
-differing a = recordOf 0 0 0 (set (set (set (resetImage 0) 0x000 0x01) 0x202 0x11) a 0x22) (set (resetImage 0) 0x000 0x01)
+differing a = recordOf (headerOf 0 0 0) (set (set (set (resetImage 0) 0x000 0x01) 0x202 0x11) a 0x22) (set (resetImage 0) 0x000 0x01)
 
 -- the settings of a new LP5860 with v at 001h and a level for the dot at line l, sink s
 abbrev lit : ℕ → ℕ → ℕ → ℕ → List ℕ
@@ -53,11 +56,11 @@ lit v l s level = putLevel (set (resetImage 0) 0x001 v) (dotNumber l s) level
 
 -- a new LP5860 with pins 0 on a bus
 abbrev fresh : ℕ → Record
-fresh bus = openOf 0 bus 0 .state
+fresh bus = openOf 0 bus 0 .host
 
 -- the buffer after a command, with v to a, of a new record
 abbrev ordered : ℕ → ℕ → ℕ → List ℕ
-ordered bus a v = over (encode (fresh bus .bus) (fresh bus .pins) (commandWrite a v)) (replicate 9 0)
+ordered bus a v = over (encode (fresh bus .header .bus) (fresh bus .header .pins) (commandWrite a v)) (replicate 9 0)
 
 -- the command strings of a record with pins 0, on I2C and on SPI
 pub record FixedBytes : Type 0 where
@@ -91,37 +94,37 @@ pub record Starred : Type 0 where
   -- "LP5867 line 2, sink 8: current at 12Ch."
   pub current-at-12C : placeOf Current 3 2 8 ≡ At 0x12C 0
   -- "Sink 2: refusal 6."
-  pub sink-2-refused : answerNumber (lampOf (openOf 3 0 0 .state) 2 2 0 .answer) ≡ 6
+  pub sink-2-refused : answerNumber (lampOf (openOf 3 0 0 .host) 2 2 0 .answer) ≡ 6
   -- the fixed command strings
   pub fixed-bytes : FixedBytes
 
 -- (the two that go through every call stand apart, since each takes some memory to compute)
 bench-i2c : updated 0 ≡ benchList
-unfolding openAnswer opens linesOf columnsOf hasColumn dotIn isDot numberIn kindOf dataMode isWide firstMasks firstMask noSink groupMask switchMask groupReserved switchReserved currentReserved pwmReserved reservedAs reservedOf writableOf firstReset switchBytesOf switchReset currentReset resetAs resetOf allFrom tableFrom table okByte okAt imageOk resetImage headFirst headSecond transactionOf listOf encode scan plan updateFor soundOf whenSound settled opened openState openOf registerAnswer registerOf wideOf topLevel whenDot lampAnswer putLevel lampOf writesOf updateAnswer updateBuffer
+unfolding openAnswer opens linesOf columnsOf hasColumn dotIn isDot numberIn kindOf dataMode isWide firstMasks firstMask noSink groupMask switchMask groupReserved switchReserved currentReserved pwmReserved reservedAs reservedOf writableOf firstReset switchBytesOf switchReset currentReset resetAs resetOf allFrom tableFrom table okByte okAt imageOk resetImage headFirst headSecond transactionOf listOf encode scan plan updateFor wideOf topLevel putLevel soundOf mayWrite whenSound opened openHost openOf registerAnswer whenDot lampAnswer argumentsAnswer settingAnswer putSetting changedTo settingOf writesOf sendAnswer sendBuffer
 bench-i2c = refl
 
 bench-spi : transactions (updated 1) ≡ benchTransactions
-unfolding openAnswer opens linesOf columnsOf hasColumn dotIn isDot numberIn kindOf dataMode isWide firstMasks firstMask noSink groupMask switchMask groupReserved switchReserved currentReserved pwmReserved reservedAs reservedOf writableOf firstReset switchBytesOf switchReset currentReset resetAs resetOf allFrom tableFrom table okByte okAt imageOk resetImage byteAt size16 nOf lengthsFrom lengths cutFrom transactions headFirst headSecond transactionOf listOf encode scan plan updateFor soundOf whenSound settled opened openState openOf registerAnswer registerOf wideOf topLevel whenDot lampAnswer putLevel lampOf writesOf updateAnswer updateBuffer
+unfolding openAnswer opens linesOf columnsOf hasColumn dotIn isDot numberIn kindOf dataMode isWide firstMasks firstMask noSink groupMask switchMask groupReserved switchReserved currentReserved pwmReserved reservedAs reservedOf writableOf firstReset switchBytesOf switchReset currentReset resetAs resetOf allFrom tableFrom table okByte okAt imageOk resetImage byteAt size16 nOf lengthsFrom lengths cutFrom transactions headFirst headSecond transactionOf listOf encode scan plan updateFor wideOf topLevel putLevel soundOf mayWrite whenSound opened openHost openOf registerAnswer whenDot lampAnswer argumentsAnswer settingAnswer putSetting changedTo settingOf writesOf sendAnswer sendBuffer
 bench-spi = refl
 
 -- a new record is sound, so that its command is listed
-command-bytes : (bus a v : ℕ) → commandBuffer (fresh bus) a v (replicate 9 0) ≡ ordered bus a v
-unfolding commandBuffer commandAnswer
-command-bytes bus a v = rw (is-sound (fresh bus) (open-sound 0 bus 0)) refl
+command-bytes : (bus a v : ℕ) (image : List ℕ) → sendBuffer (fresh bus) (command a v image) (replicate 9 0) ≡ ordered bus a v
+unfolding sendBuffer sendAnswer
+command-bytes bus a v image = rw (is-sound (fresh bus) (open-sound 0 bus 0)) refl
 
 fixed : FixedBytes
-unfolding openAnswer opens opened openState openOf headFirst headSecond transactionOf listOf encode
+unfolding openAnswer opens opened openHost openOf headFirst headSecond transactionOf listOf encode
 fixed = record {
-  reset-i2c = command-bytes 0 0x0A9 0xFF;
-  reset-spi = command-bytes 1 0x0A9 0xFF;
-  clear-opens-i2c = command-bytes 0 0x0A7 0x0F;
-  clear-opens-spi = command-bytes 1 0x0A7 0x0F;
-  clear-shorts-i2c = command-bytes 0 0x0A8 0x0F;
-  clear-shorts-spi = command-bytes 1 0x0A8 0x0F;
+  reset-i2c = command-bytes 0 0x0A9 0xFF (resetImage (fresh 0 .header .member));
+  reset-spi = command-bytes 1 0x0A9 0xFF (resetImage (fresh 1 .header .member));
+  clear-opens-i2c = command-bytes 0 0x0A7 0x0F (fresh 0 .image);
+  clear-opens-spi = command-bytes 1 0x0A7 0x0F (fresh 1 .image);
+  clear-shorts-i2c = command-bytes 0 0x0A8 0x0F (fresh 0 .image);
+  clear-shorts-spi = command-bytes 1 0x0A8 0x0F (fresh 1 .image);
 }
 
 pub starred : Starred
-unfolding openAnswer opens linesOf columnsOf hasColumn dotIn isDot numberIn kindOf addressOf shiftOf placeAs placeOf lineNumber dataMode isWide firstMasks firstMask noSink groupMask switchMask groupReserved switchReserved currentReserved pwmReserved reservedAs reservedOf writableOf firstReset switchBytesOf switchReset currentReset resetAs resetOf allFrom tableFrom table okByte okAt imageOk resetImage scan plan updateFor soundOf whenSound settled opened openState openOf wideOf topLevel whenDot lampAnswer putLevel lampOf writesOf
+unfolding openAnswer opens linesOf columnsOf hasColumn dotIn isDot numberIn kindOf addressOf shiftOf placeAs placeOf lineNumber dataMode isWide firstMasks firstMask noSink groupMask switchMask groupReserved switchReserved currentReserved pwmReserved reservedAs reservedOf writableOf firstReset switchBytesOf switchReset currentReset resetAs resetOf allFrom tableFrom table okByte okAt imageOk resetImage scan plan updateFor wideOf topLevel putLevel soundOf mayWrite whenSound opened openHost openOf whenDot lampAnswer argumentsAnswer settingAnswer changedTo settingOf writesOf
 starred = record {
   lines-of-5E = refl;
   mode-of-5E = refl;

@@ -11,24 +11,28 @@ use lib.Dec.{ltb}
 use Rattle.map.specs.Refusals.{opens}
 use Rattle.map.specs.RefusalLaws.{open-i2c, open-member}
 use Rattle.map.specs.Images.{imageOk, resetImage}
+use Rattle.calls.specs.declared.Setting.{Setting}
+use Rattle.calls.specs.declared.Request.{Request}
+use Rattle.calls.specs.declared.Request.the-variants.{Set}
 use Rattle.host.specs.declared.Changed.{Changed}
-use Rattle.host.specs.Record.{recordOf, soundOf}
+use Rattle.host.specs.Record.{headerOf, recordOf, soundOf, settingOf}
 use Rattle.chip.specs.declared.Chip.{Chip}
 use Rattle.history.specs.declared.World.{World}
-use Rattle.history.specs.declared.Request.{Request}
 use Rattle.history.specs.declared.Stepped.{Stepped}
 use Rattle.history.specs.declared.Ledger.{Ledger}
-use Rattle.history.specs.Step.{settingStep, stepOf, lentAfter}
-use Rattle.history.specs.Ledger.{entry, openedLedger, enteredOf}
+use Rattle.history.specs.Step.{Step, leaving, changeStep, stepOf}
+use Rattle.history.specs.Ledger.{entry, toldOf, openedLedger, enteredOf}
+use Rattle.history.specs.LedgerLaws.{setting-enters}
 
 -- ---- steps
 
-pub step-is : (w : World) (request x : Request) (lent new : List ℕ) (s : Stepped) → request ≡ x → s ≡ stepOf w x lent → new ≡ lentAfter w x lent →
-    (s ≡ stepOf w request lent) × (new ≡ lentAfter w request lent)
-step-is w request x lent new s e t l = rw e (t, l)
+pub step-is : (w : World) (request x : Request) (lent : List ℕ) (s : Step) → request ≡ x → s ≡ stepOf w x lent → s ≡ stepOf w request lent
+step-is w request x lent s e t = t ∙ ap (λ (q : Request). stepOf w q lent) (sym e)
 
-pub setting-step-is : (s : Stepped) (x y : Changed) (c d : Chip) → s ≡ settingStep x c → x ≡ y → c ≡ d → s ≡ settingStep y d
-setting-step-is s x y c d e u v = e ∙ ap₂ settingStep u v
+-- a call that answers a number alone
+pub change-is : (s : Stepped) (x y : Changed) (c d : Chip) (lent : List ℕ) → ((l : List ℕ) → leaving s l ≡ changeStep x c l) → x ≡ y → c ≡ d →
+    leaving s lent ≡ changeStep y d lent
+change-is s x y c d lent e u v = e lent ∙ ap₂ (λ (z : Changed) (k : Chip). changeStep z k lent) u v
 
 -- ---- the ledger
 
@@ -38,17 +42,17 @@ opened-is m k bytes e b = rw (b, e) refl
 
 pub entered-is : (g : Ledger) (request : Request) (lent bytes : List ℕ) →
     bytes ≡ cond (imageOk (g .member) (g .bytes)) (entry (g .member) (g .bytes) request lent) (g .bytes) →
-    record { member = g .member; bytes = bytes } ≡ enteredOf g request lent
+    record { member = g .member; bytes = bytes } ≡ enteredOf g (toldOf request lent)
 unfolding enteredOf
 entered-is g request lent bytes e = ap (λ (l : List ℕ). record { member = g .member; bytes = l }) e
 
 module _ (m : ℕ) (bytes : List ℕ) where
   -- a record of the ledger's bytes, on bus 0 with pins 0, is sound where its bytes are an image of the member
-  pub image-sound : soundOf (recordOf m 0 0 bytes bytes) ≡ imageOk m bytes
+  image-sound : soundOf (recordOf (headerOf m 0 0) bytes bytes) ≡ imageOk m bytes
   unfolding soundOf opens imageOk
   image-sound = go (decLt m 5)
     where
-      go : Dec (m < 5) → soundOf (recordOf m 0 0 bytes bytes) ≡ imageOk m bytes
+      go : Dec (m < 5) → soundOf (recordOf (headerOf m 0 0) bytes bytes) ≡ imageOk m bytes
       go (yes h) = rw (open-i2c m 0 0 (omega arith) (omega arith) refl, lt-ltb m 5 h) (twice _)
         where
           twice : (b : Bool) → (b && b) ≡ b
@@ -56,20 +60,24 @@ module _ (m : ℕ) (bytes : List ℕ) where
           twice false = refl
       go (no n) = rw (open-member m 0 0 (omega arith), le-ltb m 5 (omega arith)) refl
 
+  -- what a setting leaves in that record
+  pub set-is : (q : Setting) (lent : List ℕ) (x : Changed) → x ≡ settingOf (recordOf (headerOf m 0 0) bytes bytes) q lent →
+      x .host .settings ≡ cond (imageOk m bytes) (entry m bytes (Set q) lent) bytes
+  set-is q lent x e =
+      let asked = recordOf (headerOf m 0 0) bytes bytes in
+      ap (λ (y : Changed). y .host .settings) e
+      ∙ setting-enters asked q lent
+      ∙ ap (λ (b : Bool). cond b (entry m bytes (Set q) lent) bytes) image-sound
+
   module _ (request x : Request) (lent : List ℕ) (e : request ≡ x) where
-    -- what a setting leaves in that record
-    pub enters : (out : List ℕ) (changed y : Changed) → out ≡ changed .state .settings → changed ≡ y →
-        y .state .settings ≡ cond (soundOf (recordOf m 0 0 bytes bytes)) (entry m bytes x lent) bytes →
+    -- the bytes after a call, by its case
+    pub enters : (out : List ℕ) → out ≡ cond (imageOk m bytes) (entry m bytes x lent) bytes →
         out ≡ cond (imageOk m bytes) (entry m bytes request lent) bytes
-    enters out changed y o c l =
-        o
-        ∙ ap (λ (z : Changed). z .state .settings) c
-        ∙ l
-        ∙ ap₂ (λ (b : Bool) (q : Request). cond b (entry m bytes q lent) bytes) image-sound (sym e)
+    enters out o = o ∙ ap (λ (q : Request). cond (imageOk m bytes) (entry m bytes q lent) bytes) (sym e)
 
     -- a call that is no setting
     pub enters-nothing : entry m bytes x lent ≡ bytes → bytes ≡ cond (imageOk m bytes) (entry m bytes request lent) bytes
-    enters-nothing n = sym (same (imageOk m bytes)) ∙ ap (λ (l : List ℕ). cond (imageOk m bytes) l bytes) (sym n ∙ ap (λ (q : Request). entry m bytes q lent) (sym e))
+    enters-nothing n = enters bytes (sym (same (imageOk m bytes)) ∙ ap (λ (l : List ℕ). cond (imageOk m bytes) l bytes) (sym n))
       where
         same : (b : Bool) → cond b bytes bytes ≡ bytes
         same true = refl

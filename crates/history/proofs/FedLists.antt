@@ -1,60 +1,44 @@
 -- Lists that are fed as soon as they are answered: an answer of n and t has room for its list in the buffer.
 -- Assumes nothing.
-use mathlib.Core.Path.{_≡_, refl, sym, ap, subst, _∙_}
-use mathlib.Core.Bool.{Bool, true, false, cond}
+use mathlib.Core.Path.{_≡_, refl, sym, ap, ap₂, subst, _∙_}
+use mathlib.Core.Bool.{false}
 use mathlib.Core.List.{List}
 use Prim.Native.Nat.{ℕ, _+_, _*_, _≤_}
-use borrow.Author.Tests.{leb-true}
-use lib.Dec.{leb}
+use native.Mathlib.Omega.{arith}
 use lib.ListN.{length}
 use lib.Seq.{length-take-le}
-use Rattle.map.specs.declared.refusals.Refusal.the-variants.{BufferShort, Unsound}
-use Rattle.burst.specs.Burst.{busBytes}
 use Rattle.host.specs.declared.Record.{Record}
-use Rattle.host.specs.Record.{soundOf}
 use Rattle.update.specs.declared.ListAnswer.{ListAnswer}
 use Rattle.update.specs.declared.ListAnswer.the-variants.{Listed, Short, Refused}
 use Rattle.update.specs.declared.Updated.{Updated}
-use Rattle.update.specs.Update.{listSize, writesOf, updateAnswer, updateOf, commandAnswer, chipResetOf, clearOf}
+use Rattle.update.specs.Update.{isListed, Sending, sendAnswer, sendOf, sendBuffer, clearingShorts, clearOf}
+use Rattle.update.specs.SendLaws.{Answered, answered}
 use Rattle.chip.specs.declared.Chip.{Chip}
 use Rattle.chip.specs.declared.Fed.{Fed}
 use Rattle.chip.specs.Chip.{feedOf}
+use Rattle.history.specs.declared.World.{World}
 use Rattle.history.specs.declared.CallAnswer as answers
 use Rattle.history.specs.declared.Stepped.{Stepped}
-use Rattle.history.specs.Step.{Within, listIn, fedBy, listStep}
+use Rattle.history.specs.Step.{Step, Within, listIn, fedBy, leaving, listStep, sendStep}
 
 -- ---- room
 
--- a list that is answered only where it has room, behind the test of the record
-tested-within : (sound : Bool) (n t size : ℕ) (short : ListAnswer) → Within short size →
-    Within (cond sound (cond (leb (4 + 2 * n + t) size) (Listed n t) short) (Refused Unsound)) size
-tested-within false n t size short h = tt
-tested-within true n t size short h = go (leb (4 + 2 * n + t) size) refl
+-- every call that sends answers a list only where it has room
+send-within : (r : Record) (x : Sending) → isListed (x .short) ≡ false → (size : ℕ) → Within (sendOf r x size .answer) size
+unfolding sendOf
+send-within r x s size = go (sendAnswer r x size) refl
   where
-    go : (b : Bool) → leb (4 + 2 * n + t) size ≡ b → Within (cond b (Listed n t) short) size
-    go true e = leb-true (4 + 2 * n + t) size e
-    go false e = h
+    go : (answer : ListAnswer) → sendAnswer r x size ≡ answer → Within answer size
+    go (Listed n t) e =
+        let a : Answered r x size n t = answered r x s size n t e in
+        omega (arith, a .room, a .n-is, a .t-is)
+    go (Short needed) e = tt
+    go (Refused refusal) e = tt
 
-module _ (r : Record) (size : ℕ) where
-  pub update-within : Within (updateOf r size .answer) size
-  unfolding updateOf updateAnswer
-  update-within = tested-within (soundOf r) (length (writesOf r)) (busBytes (writesOf r)) size (Short (listSize (writesOf r))) tt
-
-  command-within : Within (commandAnswer r size) size
-  unfolding commandAnswer
-  command-within = tested-within (soundOf r) 1 3 size (Refused BufferShort) tt
-
-  pub reset-within : Within (chipResetOf r size .answer) size
-  unfolding chipResetOf
-  reset-within = command-within
-
-  pub clear-within : Within (clearOf r size .answer) size
-  unfolding clearOf
-  clear-within = command-within
-
--- a call that keeps the buffer's length
-pub within-kept : (x y : Updated) (old new : ℕ) → x ≡ y → new ≡ old → Within (y .answer) old → Within (x .answer) new
-within-kept x y old new e k h = rw (e, k) h
+-- and keeps the buffer's length
+pub within : (x : Record → Sending) (r : Record) → isListed (x r .short) ≡ false → (u : Updated) (old new : ℕ) → u ≡ sendOf r (x r) old → new ≡ old →
+    Within (u .answer) new
+within x r s u old new e k = rw (e, k) (send-within r (x r) s old)
 
 -- ---- feeding
 
@@ -69,9 +53,17 @@ pub fed-listed : (answer : ListAnswer) (n t : ℕ) (buffer : List ℕ) (c : Chip
     fed .chip ≡ fedBy answer buffer c
 fed-listed answer n t buffer c fed e f = rw (e, f) refl
 
-pub fed-is : (x : Updated) (buffer : List ℕ) (c fed : Chip) → fed ≡ fedBy (x .answer) buffer c →
-    record { answer = answers.the-variants.List (x .answer); world = record { state = x .state; chip = fed } } ≡ listStep x buffer c
-fed-is x buffer c fed e = ap (λ (d : Chip). record { answer = answers.the-variants.List (x .answer); world = record { state = x .state; chip = d } }) e
+pub listed-is : (x : Updated) (buffer : List ℕ) (c fed : Chip) → fed ≡ fedBy (x .answer) buffer c →
+    _≡_ {A = Step} (record { answer = answers.the-variants.List (x .answer); world = record { host = x .host; chip = fed }; lent = buffer }) (listStep x buffer c)
+listed-is x buffer c fed e =
+    ap (λ (d : Chip). record { answer = answers.the-variants.List (x .answer); world = record { host = x .host; chip = d }; lent = buffer }) e
 
-pub list-step-is : (s : Stepped) (x y : Updated) (new buffer : List ℕ) (c : Chip) → s ≡ listStep x new c → x ≡ y → new ≡ buffer → s ≡ listStep y buffer c
-list-step-is s x y new buffer c e u b = e ∙ ap (λ (z : Updated). listStep z new c) u ∙ ap (λ (l : List ℕ). listStep y l c) b
+-- what was fed is the step of a call that sends
+pub sent-is : (x : Record → Sending) (w : World) (old new : List ℕ) (u : Updated) (s : Stepped) → leaving s new ≡ listStep u new (w .chip) →
+    u ≡ sendOf (w .host) (x (w .host)) (length old) → new ≡ sendBuffer (w .host) (x (w .host)) old → leaving s new ≡ sendStep w (x (w .host)) old
+sent-is x w old new u s e a l = e ∙ ap₂ (λ (y : Updated) (k : List ℕ). listStep y k (w .chip)) a l
+
+-- both Clears answer alike and leave the record
+pub clear-same : (r : Record) (size : ℕ) → clearOf r size ≡ sendOf r (clearingShorts r) size
+unfolding sendOf sendAnswer
+clear-same r size = refl

@@ -8,18 +8,17 @@ use Prim.Native.Nat.{ℕ, _+_, _≤_, _<_}
 use lib.ListN.{length, getD}
 use Rattle.map.specs.Refusals.{accepted}
 use Rattle.map.specs.Map.{writableOf}
-use Rattle.map.specs.Images.{resetImage}
 use Rattle.burst.specs.Burst.{burstOf, nOf, tOf, transactions}
-use Rattle.host.specs.Record.{openOf}
+use Rattle.calls.specs.declared.Request.{Request}
+use Rattle.calls.specs.declared.Request.the-variants.{Update}
+use Rattle.host.specs.declared.Header.{Header}
+use Rattle.host.specs.Record.{mayWrite, openOf}
 use Rattle.update.specs.declared.ListAnswer.the-variants.{Listed}
-use Rattle.update.specs.Update.{updateOf, updateBuffer}
-use Rattle.chip.specs.declared.Chip.{Chip}
 use Rattle.chip.specs.declared.decode.Transaction.the-variants.{Write}
 use Rattle.chip.specs.Chip.{atResetOf, decodeOf, feedOf}
 use Rattle.history.specs.declared.World.{World}
-use Rattle.history.specs.declared.Request.{Request}
-use Rattle.history.specs.declared.Request.the-variants.{Update}
-use Rattle.history.specs.Ledger.{entry, wantsOn}
+use Rattle.history.specs.declared.CallAnswer as answers
+use Rattle.history.specs.Ledger.{Told, toldOf, ledger, wantsOn}
 use Rattle.history.specs.Step.{listIn, stepOf}
 
 -- ---- Lists of calls
@@ -31,7 +30,7 @@ pub record Call : Type 0 where
 
 -- "The first gets the record of an accepted Open," and a chip of the same member, bus and pins at reset values;
 abbrev pub start : ℕ → ℕ → ℕ → World
-start m b p = record { state = openOf m b p .state; chip = atResetOf m b p .chip }
+start m b p = record { host = openOf m b p .host; chip = atResetOf m b p .chip }
 
 -- "each next one the record the last one returned, refused or not; nobody else writes it."
 abbrev pub run : World → List Call → World
@@ -42,14 +41,18 @@ run w (c ∷ cs) = run (stepOf w (c .request) (c .lent) .world) cs
 abbrev pub worldAfter : ℕ → ℕ → ℕ → List Call → World
 worldAfter m b p calls = run (start m b p) calls
 
--- the ledger "is fed the calls in order, with all their arguments but the record, and never an answer."
-abbrev pub entries : ℕ → List ℕ → List Call → List ℕ
-entries m s [] = s
-entries m s (c ∷ cs) = entries m (entry m s (c .request) (c .lent)) cs
+-- What the ledger is told of a call on the world w: "all their arguments but the record, and never an answer."
+abbrev pub tell : World → Call → Told
+tell w c = toldOf (c .request) (c .lent)
 
--- it "has the member that the accepted Open was given, and 908 bytes, which begin at that member's reset values."
-abbrev pub ledger : ℕ → List Call → List ℕ
-ledger m calls = entries m (resetImage m) calls
+-- "the calls in order": of each next one on the world that the last one left
+abbrev pub told : World → List Call → List Told
+told w [] = []
+told w (c ∷ cs) = tell w c ∷ told (stepOf w (c .request) (c .lent) .world) cs
+
+-- the ledger's bytes after these calls
+abbrev pub ledgerAfter : ℕ → ℕ → ℕ → List Call → List ℕ
+ledgerAfter m b p calls = ledger m (told (start m b p) calls)
 
 -- ---- Addresses and rivals
 
@@ -57,58 +60,63 @@ ledger m calls = entries m (resetImage m) calls
 abbrev pub SameWritable : ℕ → List ℕ → List ℕ → Type 0
 SameWritable m x y = (a : ℕ) → writableOf m a ≡ true → getD x a 0 ≡ getD y a 0
 
--- A transaction x is "a write to this chip and each data byte, heard or not, for a writable address": `burstOf` has the address of
--- the head and the data behind it.
-pub record WritesWritable (m b p : ℕ) (x : List ℕ) : Type 0 where
+-- A transaction x is "a write to this chip and each data byte, heard or not, for a writable address", one that may be written by the
+-- record's header h: `burstOf` has the address of the head and the data behind it.
+pub record Allowed (b p : ℕ) (h : Header) (x : List ℕ) : Type 0 where
   pub write : decodeOf b p (getD x 0 0) (getD x 1 0) ≡ Write (burstOf b x .start)
-  pub writable : (i : ℕ) → i < length (burstOf b x .bytes) → writableOf m (burstOf b x .start + i) ≡ true
+  pub may : (i : ℕ) → i < length (burstOf b x .bytes) → mayWrite h (burstOf b x .start + i) ≡ true
 
 -- so is each transaction of a list: "An update names the address of each data byte in its list"
-abbrev pub AllWriteWritable : ℕ → ℕ → ℕ → List (List ℕ) → Type 0
-AllWriteWritable m b p [] = Unit
-AllWriteWritable m b p (x ∷ xs) = WritesWritable m b p x × AllWriteWritable m b p xs
+abbrev pub AllAllowed : ℕ → ℕ → Header → List (List ℕ) → Type 0
+AllAllowed b p h [] = Unit
+AllAllowed b p h (x ∷ xs) = Allowed b p h x × AllAllowed b p h xs
 
 -- "A rival is any other list that Feed takes, .. It is fed to the chip as that stood before the last Update, and counts if the
--- writable bytes are then as after that Update.": l, fed to the chip c, leaves the writable bytes of the chip d.
-pub record Rival (m b p : ℕ) (c d : Chip) (l : List ℕ) : Type 0 where
-  pub taken : accepted (feedOf c l .answer) ≡ true
-  pub writes : AllWriteWritable m b p (transactions l)
-  pub leaves : SameWritable m (feedOf c l .chip .registers) (d .registers)
+-- writable bytes are then as after that Update.": l, fed to the chip as it stood `before`, keeps to what the record of then may write,
+-- and leaves the writable bytes of the chip `after`.
+pub record Rival (m b p : ℕ) (before after : World) (l : List ℕ) : Type 0 where
+  pub taken : accepted (feedOf (before .chip) l .answer) ≡ true
+  pub writes : AllAllowed b p (before .host .header) (transactions l)
+  pub leaves : SameWritable m (feedOf (before .chip) l .chip .registers) (after .chip .registers)
 
 -- ---- The claim
 
+-- An Update on the world w, with this buffer, is accepted and answers n and t;
+abbrev pub UpdateAnswers : World → List ℕ → ℕ → ℕ → Type 0
+UpdateAnswers w buffer n t = stepOf w Update buffer .answer ≡ answers.the-variants.List (Listed n t)
+
+-- and this is the list that it wrote.
+abbrev pub updateList : World → List ℕ → ℕ → ℕ → List ℕ
+updateList w buffer n t = listIn n t (stepOf w Update buffer .lent)
+
 module _ (m b p : ℕ) where
-  -- The calls are those `before`, an Update with this buffer that answers n and t, and those `after` it.
-  pub record Updates (calls before after : List Call) (buffer : List ℕ) (n t : ℕ) : Type 0 where
-    pub calls-are : calls ≡ before ++ (record { request = Update; lent = buffer } ∷ after)
-    pub answers : updateOf (worldAfter m b p before .state) (length buffer) .answer ≡ Listed n t
+  -- The calls are those `before`, an Update with this buffer that answers n and t, and those `behind` it.
+  pub record Updates (calls before behind : List Call) (buffer : List ℕ) (n t : ℕ) : Type 0 where
+    pub calls-are : calls ≡ before ++ (record { request = Update; lent = buffer } ∷ behind)
+    pub answers : UpdateAnswers (worldAfter m b p before) buffer n t
 
-  -- the list that this Update wrote
-  abbrev pub updateList : List Call → List ℕ → ℕ → ℕ → List ℕ
-  updateList before buffer n t = listIn n t (updateBuffer (worldAfter m b p before .state) buffer)
-
-  -- What is owed after `calls`, the last of which is an accepted Update that answered n and t: `before` are those before it, and
-  -- `list` is what it wrote.
-  pub record LastUpdate (calls before : List Call) (list : List ℕ) (n t : ℕ) : Type 0 where
+  -- What is owed behind an accepted Update that wrote `list` and answered n and t: `before` and `after` are the worlds before and after
+  -- it, and s is the ledger.
+  pub record Owed (s : List ℕ) (before after : World) (list : List ℕ) (n t : ℕ) : Type 0 where
     -- demand 3: "with chip enable wanted on, the chip holds in every writable register exactly what the ledger of accepted settings says"
-    pub values : wantsOn (ledger m calls) ≡ true → SameWritable m (worldAfter m b p calls .chip .registers) (ledger m calls)
+    pub values : wantsOn s ≡ true → SameWritable m (after .chip .registers) s
     -- demand 3: "every rival list .. has at least as many bus bytes as the update reports."
-    pub fewest : (l : List ℕ) → Rival m b p (worldAfter m b p before .chip) (worldAfter m b p calls .chip) l → t ≤ tOf l
+    pub fewest : (l : List ℕ) → Rival m b p before after l → t ≤ tOf l
     -- "With equal bytes this takes the fewer writes."
-    pub fewest-writes : (l : List ℕ) → Rival m b p (worldAfter m b p before .chip) (worldAfter m b p calls .chip) l → tOf l ≡ t → n ≤ nOf l
+    pub fewest-writes : (l : List ℕ) → Rival m b p before after l → tOf l ≡ t → n ≤ nOf l
     -- Its own list, of n transactions and t bus bytes, does what the rivals do: the least is reached.
-    pub own : Rival m b p (worldAfter m b p before .chip) (worldAfter m b p calls .chip) list
+    pub own : Rival m b p before after list
     pub own-count : nOf list ≡ n
     pub own-bytes : tOf list ≡ t
 
   -- "Demand 3 is a single claim about the whole list, not one for each call."
   pub record Demand3 (calls : List Call) : Type 0 where
     -- demand 3: "no update names an address outside the member's writable ones": no accepted Update, wherever it stands
-    pub names : (before after : List Call) (buffer : List ℕ) (n t : ℕ) → Updates calls before after buffer n t →
-        AllWriteWritable m b p (transactions (updateList before buffer n t))
+    pub names : (before behind : List Call) (buffer : List ℕ) (n t : ℕ) → Updates calls before behind buffer n t →
+        AllAllowed b p (worldAfter m b p before .host .header) (transactions (updateList (worldAfter m b p before) buffer n t))
     -- demand 3: "and if the last call is an accepted update"
     pub last : (before : List Call) (buffer : List ℕ) (n t : ℕ) → Updates calls before [] buffer n t →
-        LastUpdate calls before (updateList before buffer n t) n t
+        Owed (ledgerAfter m b p calls) (worldAfter m b p before) (worldAfter m b p calls) (updateList (worldAfter m b p before) buffer n t) n t
 
 -- for every list of calls after every Open that is accepted
 abbrev pub WholeLists : Type 0

@@ -11,18 +11,20 @@ use Rattle.map.specs.Map.{linesOf, columnsOf, hasColumn, dotIn, isDot, numberIn
 use Rattle.map.specs.Lists.{tableFrom, table}
 use Rattle.map.specs.Images.{okByte, imageOk, resetImage}
 use Rattle.burst.specs.Burst.{byteAt, size16, nOf, tOf, lengthsFrom, lengths, cutFrom, transactions, lengthsGood, sizesGood, headFirst, headSecond, headAddress, headWrites, headSelect, transactionOf, listOf, encode}
-use Rattle.host.specs.Record.{soundOf, wideOf, topLevel, putLevel, putBits, putField}
+use Rattle.dots.specs.Dots.{wideOf, topLevel, putLevel, putBits, putField}
+use Rattle.calls.specs.declared.Setting.{Setting}
+use Rattle.calls.specs.declared.Setting.the-variants.{Register, Lamp, Group, Switch}
+use Rattle.calls.specs.declared.Request.{Request}
+use Rattle.calls.specs.declared.Request.the-variants.{Set, Reset, PowerLost, Update}
+use Rattle.host.specs.Record.{soundOf, putSetting}
 use Rattle.update.specs.declared.ListAnswer.the-variants as lists
-use Rattle.update.specs.Update.{commandAnswer, commandBuffer, clearOf}
+use Rattle.update.specs.Update.{sendAnswer, sendOf, sendBuffer}
 use Rattle.chip.specs.Chip.{feedAnswer, selected, decodeOf, heard, isCommand, clearOpens, clearShorts, heardByte, hearByte, hearData, hear, apply, applyAll, feedOf}
 use Rattle.history.specs.declared.World.{World}
 use Rattle.history.specs.declared.CallAnswer.{CallAnswer}
 use Rattle.history.specs.declared.CallAnswer.the-variants as answers
-use Rattle.history.specs.declared.Request.{Request}
-use Rattle.history.specs.declared.Request.the-variants.{Register, Lamp, Group, Switch, Scene, Reset, PowerLost, Update}
-use Rattle.history.specs.Ledger.{registerMeets, lampMeets, fieldMeets, wantsOn, openedLedger, enteredOf}
-use Rattle.history.specs.Step.{callNumbers, listIn, lentAfter, clearOpensStep, clearShortsStep}
-use Rattle.history.specs.History.{Call, ledger}
+use Rattle.history.specs.Ledger.{registerMeets, lampMeets, fieldMeets, settingMeets, Told, toldOf, ledger, wantsOn, openedLedger, enteredOf}
+use Rattle.history.specs.Step.{callNumbers, listIn, stepOf, clearOpensStep, clearShortsStep}
 
 -- "a definition states this paper's number and values for each case of the enum"
 call-answers : List CallAnswer
@@ -37,9 +39,8 @@ list-in-front : listIn 1 3 (1 ∷ 2 ∷ 3 ∷ 4 ∷ 5 ∷ 6 ∷ 7 ∷ 8 ∷ 9 �
 list-in-front = refl
 
 -- a setting and Power lost leave the lent bytes as they were: a scene's too
-lent-stays : (w : World) (lent : List ℕ) (x y z : ℕ) → (lentAfter w (Register x y) lent ≡ lent) × (lentAfter w (Lamp x y z) lent ≡ lent)
-    × (lentAfter w (Group x y z) lent ≡ lent) × (lentAfter w (Switch x y z) lent ≡ lent) × (lentAfter w Scene lent ≡ lent) × (lentAfter w PowerLost lent ≡ lent)
-lent-stays w lent x y z = (refl, refl, refl, refl, refl, refl)
+lent-stays : (w : World) (q : Setting) (lent : List ℕ) → (stepOf w (Set q) lent .lent ≡ lent) × (stepOf w PowerLost lent .lent ≡ lent)
+lent-stays w q lent = (refl, refl)
 
 -- "Chip enable is wanted on when bit 0 of the ledger's 000h is 1."
 wanted-on : (wantsOn (0xFF ∷ 0x00 ∷ []) ≡ true) × (wantsOn (0xFE ∷ 0xFF ∷ []) ≡ false)
@@ -56,39 +57,43 @@ unfolding openedLedger
 refused-ledger = refl
 
 -- bytes that no ledger holds stay as they are, whatever the call
-no-ledger : (request : Request) (lent : List ℕ) → enteredOf (record { member = 5; bytes = 0x07 ∷ [] }) request lent ≡ record { member = 5; bytes = 0x07 ∷ [] }
+no-ledger : (x : Told) → enteredOf (record { member = 5; bytes = 0x07 ∷ [] }) x ≡ record { member = 5; bytes = 0x07 ∷ [] }
 unfolding enteredOf imageOk
-no-ledger request lent = refl
+no-ledger x = refl
 
-abbrev plain : Request → Call
-plain request = record { request = request; lent = [] }
+-- calls with nothing lent
+abbrev plain : Request → Told
+plain request = toldOf request []
+
+abbrev setting : Setting → Told
+setting q = plain (Set q)
 
 -- document 01's second bench example and the last dot, then settings that fail their conditions and calls that set nothing: 38Ch is not
 -- writable, 02h at 000h has a reserved bit set, 256 is no level of 8 bits, 4 no group, 2 no state
-calls : List Call
+calls : List Told
 calls =
-    plain (Register 0x000 0x01) ∷ plain (Register 0x001 0x58) ∷ plain (Lamp 0 2 0x40)
-    ∷ plain (Lamp 10 17 255) ∷ plain (Group 10 17 3) ∷ plain (Switch 10 16 1) ∷ plain (Switch 10 17 0)
-    ∷ plain (Register 0x38C 0x01) ∷ plain (Register 0x000 0x02) ∷ plain (Lamp 0 2 256) ∷ plain (Group 10 16 4) ∷ plain (Switch 10 16 2)
+    setting (Register 0x000 0x01) ∷ setting (Register 0x001 0x58) ∷ setting (Lamp 0 2 0x40)
+    ∷ setting (Lamp 10 17 255) ∷ setting (Group 10 17 3) ∷ setting (Switch 10 16 1) ∷ setting (Switch 10 17 0)
+    ∷ setting (Register 0x38C 0x01) ∷ setting (Register 0x000 0x02) ∷ setting (Lamp 0 2 256) ∷ setting (Group 10 16 4) ∷ setting (Switch 10 16 2)
     ∷ plain Update ∷ plain Reset ∷ plain PowerLost ∷ []
 
 settings-asked : map (λ (a : ℕ). getD (ledger 0 calls) a 0) (0x000 ∷ 0x001 ∷ 0x202 ∷ 0x203 ∷ 0x2C5 ∷ 0x042 ∷ 0x063 ∷ [])
     ≡ 0x01 ∷ 0x58 ∷ 0x40 ∷ 0x00 ∷ 0xFF ∷ 0x0C ∷ 0x01 ∷ []
-unfolding calls registerMeets lampMeets fieldMeets okByte writableOf reservedOf reservedAs kindOf linesOf columnsOf hasColumn dotIn isDot numberIn addressOf shiftOf widthOf dataMode isWide firstMasks firstMask pwmReserved wideOf topLevel putLevel putBits putField resetImage table tableFrom resetOf resetAs firstReset switchBytesOf switchReset currentReset
+unfolding calls settingMeets putSetting registerMeets lampMeets fieldMeets okByte writableOf reservedOf reservedAs kindOf linesOf columnsOf hasColumn dotIn isDot numberIn addressOf shiftOf widthOf dataMode isWide firstMasks firstMask pwmReserved wideOf topLevel putLevel putBits putField resetImage table tableFrom resetOf resetAs firstReset switchBytesOf switchReset currentReset
 settings-asked = refl
 
 -- ---- The Clears
 
 -- a record and a chip that are sound, on I2C with pins 0, and the chip is on
-module _ (w : World) (sound : soundOf (w .state) ≡ true) (bus : w .state .bus ≡ 0) (pins : w .state .pins ≡ 0)
+module _ (w : World) (sound : soundOf (w .host) ≡ true) (bus : w .host .header .bus ≡ 0) (pins : w .host .header .pins ≡ 0)
     (chip-sound : Rattle.chip.specs.Chip.soundOf (w .chip) ≡ true) (chip-bus : w .chip .bus ≡ 0) (chip-pins : w .chip .pins ≡ 0)
     (on : getD (w .chip .registers) 0x000 0 ≡ 0x01) where
   -- "0Fh to 0A7h": what the list of a Clear opens does to the chip, and the record stays
-  opens-cleared : (clearOpensStep w (replicate 9 0xA5) .world .chip .registers ≡ clearOpens (w .chip .registers)) × (clearOpensStep w (replicate 9 0xA5) .world .state ≡ w .state)
-  unfolding clearOf commandAnswer commandBuffer encode listOf transactionOf headFirst headSecond feedOf feedAnswer sizesGood lengthsGood transactions cutFrom lengths lengthsFrom nOf tOf size16 byteAt applyAll apply decodeOf selected headAddress headWrites headSelect hear hearData hearByte heardByte heard isCommand
+  opens-cleared : (clearOpensStep w (replicate 9 0xA5) .world .chip .registers ≡ clearOpens (w .chip .registers)) × (clearOpensStep w (replicate 9 0xA5) .world .host ≡ w .host)
+  unfolding sendOf sendAnswer sendBuffer encode listOf transactionOf headFirst headSecond feedOf feedAnswer sizesGood lengthsGood transactions cutFrom lengths lengthsFrom nOf tOf size16 byteAt applyAll apply decodeOf selected headAddress headWrites headSelect hear hearData hearByte heardByte heard isCommand
   opens-cleared = rw (sound, bus, pins, chip-sound, chip-bus, chip-pins, on) (refl, refl)
 
   -- "or to 0A8h."
-  shorts-cleared : (clearShortsStep w (replicate 9 0xA5) .world .chip .registers ≡ clearShorts (w .chip .registers)) × (clearShortsStep w (replicate 9 0xA5) .world .state ≡ w .state)
-  unfolding clearOf commandAnswer commandBuffer encode listOf transactionOf headFirst headSecond feedOf feedAnswer sizesGood lengthsGood transactions cutFrom lengths lengthsFrom nOf tOf size16 byteAt applyAll apply decodeOf selected headAddress headWrites headSelect hear hearData hearByte heardByte heard isCommand
+  shorts-cleared : (clearShortsStep w (replicate 9 0xA5) .world .chip .registers ≡ clearShorts (w .chip .registers)) × (clearShortsStep w (replicate 9 0xA5) .world .host ≡ w .host)
+  unfolding sendOf sendAnswer sendBuffer encode listOf transactionOf headFirst headSecond feedOf feedAnswer sizesGood lengthsGood transactions cutFrom lengths lengthsFrom nOf tOf size16 byteAt applyAll apply decodeOf selected headAddress headWrites headSelect hear hearData hearByte heardByte heard isCommand
   shorts-cleared = rw (sound, bus, pins, chip-sound, chip-bus, chip-pins, on) (refl, refl)

@@ -12,10 +12,10 @@ use Rattle.map.specs.Map.{isDot, dotNumber, addressOf, shiftOf, widthOf}
 use Rattle.map.specs.Carries.{first, group, switch, pwm8, low, high}
 use Rattle.map.specs.PlaceLaws.{dot-member}
 use Rattle.map.specs.WritableLaws.{carries-writable}
-use Rattle.host.specs.Record.{openOf, wideOf}
-use Rattle.host.specs.Reads.{levelOf, fieldOf}
+use Rattle.dots.specs.Dots.{levelOf, fieldOf, wideOf}
+use Rattle.host.specs.Record.{openOf}
 use Rattle.history.specs.Ledger.{wantsOn}
-use Rattle.history.specs.History.{Call, worldAfter, ledger, SameWritable, Updates}
+use Rattle.history.specs.History.{Call, worldAfter, ledgerAfter, SameWritable, Updates}
 use Rattle.history.specs.Theorem.{whole-lists}
 
 -- two images say the same of the dot at line l, sink s: its level, each read in the image's own data mode, its group and its switch
@@ -40,7 +40,7 @@ same-lamp m x y e l s d =
 
 -- No lamp is stale: each one reads from the chip what the ledger says.
 pub no-lamp-stale : (m b p : ℕ) → accepted (openOf m b p .answer) ≡ true → (calls before : List Call) (buffer : List ℕ) (n t : ℕ) →
-    Updates m b p calls before [] buffer n t → wantsOn (ledger m calls) ≡ true → (l s : ℕ) → isDot m l s ≡ true →
-    SameLamp (worldAfter m b p calls .chip .registers) (ledger m calls) l s
+    Updates m b p calls before [] buffer n t → wantsOn (ledgerAfter m b p calls) ≡ true → (l s : ℕ) → isDot m l s ≡ true →
+    SameLamp (worldAfter m b p calls .chip .registers) (ledgerAfter m b p calls) l s
 no-lamp-stale m b p o calls before buffer n t u w =
-    same-lamp m (worldAfter m b p calls .chip .registers) (ledger m calls) (whole-lists m b p o calls .last before buffer n t u .values w)
+    same-lamp m (worldAfter m b p calls .chip .registers) (ledgerAfter m b p calls) (whole-lists m b p o calls .last before buffer n t u .values w)

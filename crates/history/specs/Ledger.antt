@@ -1,18 +1,22 @@
 -- The ledger: document 01, "The ledger and whole lists". m is a member, s the ledger's bytes, `lent` the bytes of a scene.
 -- Assumes nothing.
 use mathlib.Core.Bool.{Bool, cond, _&&_}
-use mathlib.Core.List.{List}
+use mathlib.Core.List.{List, [], _∷_}
 use Prim.Native.Nat.{ℕ, _%_}
 use lib.Dec.{ltb, leb, eqb}
-use lib.ListN.{getD, set}
-use Rattle.map.specs.declared.dots.Field as fields
-use Rattle.map.specs.Map.{isDot, dotNumber, writableOf}
+use lib.ListN.{getD}
+use Rattle.map.specs.Map.{isDot, writableOf}
 use Rattle.map.specs.Images.{okByte, imageOk, resetImage}
 use Rattle.map.specs.Lists.{allFrom}
-use Rattle.host.specs.Record.{topLevel, putLevel, putField, sceneCount, sceneSized, sceneHasDot, sceneFits, putScene}
+use Rattle.dots.specs.Dots.{topLevel}
+use Rattle.calls.specs.declared.Setting.{Setting}
+use Rattle.calls.specs.declared.Setting.the-variants.{Register, Lamp, Group, Switch, Scene}
+use Rattle.calls.specs.declared.Request.{Request}
+use Rattle.calls.specs.declared.Request.the-variants.{Set, Reset, PowerLost, Update}
+use Rattle.host.specs.Record.{sceneCount, sceneSized, sceneHasDot, sceneFits, putSetting}
 use Rattle.history.specs.declared.Ledger.{Ledger}
-use Rattle.history.specs.declared.Request.{Request}
-use Rattle.history.specs.declared.Request.the-variants.{Register, Lamp, Group, Switch, Scene, Reset, PowerLost, Update}
+
+-- ---- The condition of a setting
 
 -- "Register: if the address is writable and the value has reset values in its reserved bits"
 unfoldable pub registerMeets : ℕ → ℕ → ℕ → Bool
@@ -34,17 +38,44 @@ entryMeets m s bytes i = sceneHasDot m bytes i && sceneFits (topLevel s) bytes i
 unfoldable pub sceneMeets : ℕ → List ℕ → List ℕ → Bool
 sceneMeets m s bytes = sceneSized bytes && allFrom (entryMeets m s bytes) 0 (sceneCount bytes)
 
--- The ledger's bytes after a call. "A setting that fails its condition is refused and changes nothing, nor do Update, Reset and
--- Power lost."
+-- each setting's own
+unfoldable pub settingMeets : ℕ → List ℕ → Setting → List ℕ → Bool
+settingMeets m s (Register a v) lent = registerMeets m a v
+settingMeets m s (Lamp l k v) lent = lampMeets m s l k v
+settingMeets m s (Group l k g) lent = fieldMeets m l k g 3
+settingMeets m s (Switch l k x) lent = fieldMeets m l k x 1
+settingMeets m s Scene lent = sceneMeets m s lent
+
+-- ---- The ledger's bytes
+
+-- after a call: "that byte takes the value", "the dot's PWM byte or bytes take it", "the dot's bits take it", "the entries act as
+-- Lamps in order". "A setting that fails its condition is refused and changes nothing, nor do Update, Reset and Power lost."
 abbrev pub entry : ℕ → List ℕ → Request → List ℕ → List ℕ
-entry m s (Register a v) lent = cond (registerMeets m a v) (set s a v) s
-entry m s (Lamp l k v) lent = cond (lampMeets m s l k v) (putLevel s (dotNumber l k) v) s
-entry m s (Group l k g) lent = cond (fieldMeets m l k g 3) (putField fields.the-variants.Group s l k g) s
-entry m s (Switch l k x) lent = cond (fieldMeets m l k x 1) (putField fields.the-variants.Switch s l k x) s
-entry m s Scene lent = cond (sceneMeets m s lent) (putScene lent s (sceneCount lent)) s
+entry m s (Set q) lent = cond (settingMeets m s q lent) (putSetting s q lent) s
 entry m s Reset lent = s
 entry m s PowerLost lent = s
 entry m s Update lent = s
+
+-- What the ledger is told of a call: it "is fed the calls in order, with all their arguments but the record, and never an answer."
+pub record Told : Type 0 where
+  pub request : Request
+  pub lent : List ℕ
+
+abbrev pub toldOf : Request → List ℕ → Told
+toldOf request lent = record { request = request; lent = lent }
+
+-- after a call that it was told of
+abbrev pub entered : ℕ → List ℕ → Told → List ℕ
+entered m s x = entry m s (x .request) (x .lent)
+
+-- after all of them
+abbrev pub entries : ℕ → List ℕ → List Told → List ℕ
+entries m s [] = s
+entries m s (x ∷ xs) = entries m (entered m s x) xs
+
+-- it "has the member that the accepted Open was given, and 908 bytes, which begin at that member's reset values."
+abbrev pub ledger : ℕ → List Told → List ℕ
+ledger m xs = entries m (resetImage m) xs
 
 -- "Chip enable is wanted on when bit 0 of the ledger's 000h is 1."
 abbrev pub wantsOn : List ℕ → Bool
@@ -57,8 +88,8 @@ unfoldable pub openedLedger : ℕ → Ledger
 openedLedger m = record { member = cond (ltb m 5) m 0; bytes = resetImage (cond (ltb m 5) m 0) }
 
 -- one more call; bytes that no ledger holds are left as they are
-unfoldable pub enteredOf : Ledger → Request → List ℕ → Ledger
-enteredOf g request lent = record {
+unfoldable pub enteredOf : Ledger → Told → Ledger
+enteredOf g x = record {
   member = g .member;
-  bytes = cond (imageOk (g .member) (g .bytes)) (entry (g .member) (g .bytes) request lent) (g .bytes);
+  bytes = cond (imageOk (g .member) (g .bytes)) (entered (g .member) (g .bytes) x) (g .bytes);
 }

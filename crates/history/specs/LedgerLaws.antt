@@ -1,24 +1,33 @@
--- What a record makes of a setting is what the ledger makes of it: the settings of a sound record become the ledger's entry.
+-- What a record makes of a setting is what the ledger makes of it: the settings of a sound record become the ledger's entry. And the
+-- ledger as a value of the program is the ledger of what it was told.
 -- Assumes nothing.
-use mathlib.Core.Path.{_≡_, refl, ap, _∙_}
+use mathlib.Core.Path.{_≡_, refl, sym, ap, _∙_}
 use mathlib.Core.Bool.{Bool, true, false, cond, _&&_}
-use mathlib.Core.List.{List}
-use Prim.Native.Nat.{ℕ, zero, suc, _+_}
+use mathlib.Core.List.{List, [], _∷_, _++_}
+use Prim.Native.Nat.{ℕ, zero, suc, _+_, _<_}
+use borrow.Author.Tests.{lt-ltb}
 use lib.Dec.{leb}
-use lib.ListN.{set}
 use Rattle.map.specs.declared.refusals.Answer.{Answer}
 use Rattle.map.specs.declared.refusals.Answer.the-variants.{Accepted, Refused}
 use Rattle.map.specs.declared.refusals.Refusal.{Refusal}
 use Rattle.map.specs.declared.refusals.Refusal.the-variants.{NotWritable, ReservedBit, NoDot, Level, GroupOrState, SceneLength, Unsound}
-use Rattle.map.specs.declared.dots.Field as fields
 use Rattle.map.specs.Refusals.{accepted}
-use Rattle.map.specs.Map.{isDot, dotNumber, writableOf}
-use Rattle.map.specs.Images.{okByte}
+use Rattle.map.specs.Map.{isDot, writableOf}
+use Rattle.map.specs.Images.{okByte, resetImage}
+use Rattle.map.specs.ImageLaws.{Image, ok-image}
 use Rattle.map.specs.Lists.{allFrom}
+use Rattle.dots.specs.Dots.{topLevel}
+use Rattle.dots.specs.DotImages.{reset-image}
+use Rattle.calls.specs.declared.Setting.{Setting}
+use Rattle.calls.specs.declared.Setting.the-variants.{Register, Lamp, Group, Switch, Scene}
+use Rattle.calls.specs.declared.Request.{Request}
+use Rattle.calls.specs.declared.Request.the-variants.{Set, Reset, PowerLost, Update}
+use Rattle.host.specs.declared.Header.{Header}
 use Rattle.host.specs.declared.Record.{Record}
-use Rattle.host.specs.Record.{soundOf, whenSound, whenDot, settled, registerAnswer, registerOf, topLevel, lampAnswer, putLevel, lampOf, fieldAnswer, putField, groupOf, switchOf, sceneCount, sceneSized, sceneHasDot, sceneFits, sceneAnswer, putScene, sceneOf}
-use Rattle.history.specs.declared.Request.the-variants.{Register, Lamp, Group, Switch, Scene}
-use Rattle.history.specs.Ledger.{registerMeets, lampMeets, fieldMeets, entryMeets, sceneMeets, entry}
+use Rattle.host.specs.Record.{headerOf, soundOf, whenSound, whenDot, registerAnswer, lampAnswer, fieldAnswer, sceneCount, sceneSized, sceneHasDot, sceneFits, sceneAnswer, argumentsAnswer, settingAnswer, putSetting, changedTo, settingOf}
+use Rattle.host.specs.SoundLaws.{chosen, setting-image}
+use Rattle.history.specs.declared.Ledger.{Ledger}
+use Rattle.history.specs.Ledger.{registerMeets, lampMeets, fieldMeets, entryMeets, sceneMeets, settingMeets, entry, Told, entered, entries, ledger, openedLedger, enteredOf}
 
 -- ---- tests
 
@@ -30,6 +39,10 @@ behind false answer x = refl
 tested : (b : Bool) (x : Refusal) → accepted (cond b Accepted (Refused x)) ≡ b
 tested true x = refl
 tested false x = refl
+
+-- one test behind another
+both : (a b : Bool) (x y : Refusal) → accepted (cond a (cond b Accepted (Refused y)) (Refused x)) ≡ (a && b)
+both a b x y = behind a (cond b Accepted (Refused y)) x ∙ ap (λ (c : Bool). a && c) (tested b y)
 
 -- two tests of each place of a range are one
 all-both : (f g : ℕ → Bool) (a n : ℕ) → (allFrom f a n && allFrom g a n) ≡ allFrom (λ i. f i && g i) a n
@@ -48,68 +61,64 @@ choice : (a b : Bool) (new old : List ℕ) → cond (a && b) new old ≡ cond a 
 choice true b new old = refl
 choice false b new old = refl
 
-module _ (r : Record) where
-  -- ---- each setting is accepted where the record is sound and the ledger's condition holds
+-- ---- a setting
 
-  register-accepted : (a v : ℕ) → accepted (registerAnswer r a v) ≡ (soundOf r && registerMeets (r .member) a v)
-  unfolding registerAnswer whenSound registerMeets
-  register-accepted a v =
-      behind (soundOf r) _ Unsound
-      ∙ ap (λ (b : Bool). soundOf r && b)
-      (behind (writableOf (r .member) a) _ NotWritable ∙ ap (λ (b : Bool). writableOf (r .member) a && b) (tested (okByte (r .member) a v) ReservedBit))
+-- its arguments are accepted where it meets the ledger's condition
+pub setting-accepted : (h : Header) (s : List ℕ) (q : Setting) (lent : List ℕ) →
+    accepted (argumentsAnswer h s q lent) ≡ settingMeets (h .member) s q lent
+unfolding argumentsAnswer settingMeets registerAnswer registerMeets whenDot lampAnswer lampMeets fieldAnswer fieldMeets sceneAnswer sceneMeets entryMeets
+setting-accepted h s (Register a v) lent = both (writableOf (h .member) a) (okByte (h .member) a v) NotWritable ReservedBit
+setting-accepted h s (Lamp l k v) lent = both (isDot (h .member) l k) (leb v (topLevel s)) NoDot Level
+setting-accepted h s (Group l k g) lent = both (isDot (h .member) l k) (leb g 3) NoDot GroupOrState
+setting-accepted h s (Switch l k x) lent = both (isDot (h .member) l k) (leb x 1) NoDot GroupOrState
+setting-accepted h s Scene lent =
+    let dots : ℕ → Bool = sceneHasDot (h .member) lent in
+    let fits : ℕ → Bool = sceneFits (topLevel s) lent in
+    behind (sceneSized lent) _ SceneLength
+    ∙ ap (λ (b : Bool). sceneSized lent && b)
+    (both (allFrom dots 0 (sceneCount lent)) (allFrom fits 0 (sceneCount lent)) NoDot Level ∙ all-both dots fits 0 (sceneCount lent))
 
-  -- a dot, then a test
-  dot-accepted : (l s : ℕ) (b : Bool) (x : Refusal) → accepted (whenDot r l s (cond b Accepted (Refused x))) ≡ (soundOf r && (isDot (r .member) l s && b))
-  unfolding whenDot whenSound
-  dot-accepted l s b x =
-      behind (soundOf r) _ Unsound
-      ∙ ap (λ (c : Bool). soundOf r && c)
-      (behind (isDot (r .member) l s) _ NoDot ∙ ap (λ (c : Bool). isDot (r .member) l s && c) (tested b x))
+-- and then the settings are the ledger's entry
+pub setting-enters : (r : Record) (q : Setting) (lent : List ℕ) →
+    settingOf r q lent .host .settings ≡ cond (soundOf r) (entry (r .header .member) (r .settings) (Set q) lent) (r .settings)
+unfolding settingOf changedTo settingAnswer whenSound
+setting-enters r q lent =
+    let new : List ℕ = putSetting (r .settings) q lent in
+    ap (λ (b : Bool). cond b new (r .settings))
+    (behind (soundOf r) _ Unsound ∙ ap (λ (b : Bool). soundOf r && b) (setting-accepted (r .header) (r .settings) q lent))
+    ∙ choice (soundOf r) (settingMeets (r .header .member) (r .settings) q lent) new (r .settings)
 
-  scene-accepted : (bytes : List ℕ) → accepted (sceneAnswer r bytes) ≡ (soundOf r && sceneMeets (r .member) (r .settings) bytes)
-  unfolding sceneAnswer whenSound sceneMeets entryMeets
-  scene-accepted bytes =
-      behind (soundOf r) _ Unsound
-      ∙ ap (λ (b : Bool). soundOf r && b)
-      (behind (sceneSized bytes) _ SceneLength
-      ∙ ap (λ (b : Bool). sceneSized bytes && b)
-      (behind (allFrom (sceneHasDot (r .member) bytes) 0 (sceneCount bytes)) _ NoDot
-      ∙ ap (λ (b : Bool). allFrom (sceneHasDot (r .member) bytes) 0 (sceneCount bytes) && b)
-      (tested (allFrom (sceneFits (topLevel (r .settings)) bytes) 0 (sceneCount bytes)) Level)
-      ∙ all-both (sceneHasDot (r .member) bytes) (sceneFits (topLevel (r .settings)) bytes) 0 (sceneCount bytes)))
+-- ---- the ledger's bytes are always an image of its member
 
-  -- ---- and then the settings are the ledger's entry
+pub entry-image : (m : ℕ) (s : List ℕ) → Image m s → (request : Request) (lent : List ℕ) → Image m (entry m s request lent)
+entry-image m s i (Set q) lent =
+    chosen m (settingMeets m s q lent) (putSetting s q lent) s (λ e. setting-image (headerOf m 0 0) s i q lent (setting-accepted (headerOf m 0 0) s q lent ∙ e)) i
+entry-image m s i Reset lent = i
+entry-image m s i PowerLost lent = i
+entry-image m s i Update lent = i
 
-  -- the settings that a call leaves, by the ledger's condition
-  by-ledger : (answer : Answer) (meets : Bool) (new : List ℕ) → accepted answer ≡ (soundOf r && meets) →
-      settled r answer new .state .settings ≡ cond (soundOf r) (cond meets new (r .settings)) (r .settings)
-  unfolding settled
-  by-ledger answer meets new e = ap (λ (b : Bool). cond b new (r .settings)) e ∙ choice (soundOf r) meets new (r .settings)
+entries-image : (m : ℕ) (xs : List Told) (s : List ℕ) → Image m s → Image m (entries m s xs)
+entries-image m [] s i = i
+entries-image m (x ∷ xs) s i = entries-image m xs (entered m s x) (entry-image m s i (x .request) (x .lent))
 
-  module _ (lent : List ℕ) where
-    pub register-enters : (a v : ℕ) → registerOf r a v .state .settings ≡ cond (soundOf r) (entry (r .member) (r .settings) (Register a v) lent) (r .settings)
-    unfolding registerOf
-    register-enters a v = by-ledger (registerAnswer r a v) (registerMeets (r .member) a v) (set (r .settings) a v) (register-accepted a v)
+pub entries-last : (m : ℕ) (xs : List Told) (x : Told) (s : List ℕ) → entries m s (xs ++ (x ∷ [])) ≡ entered m (entries m s xs) x
+entries-last m [] x s = refl
+entries-last m (y ∷ xs) x s = entries-last m xs x (entered m s y)
 
-    pub lamp-enters : (l s v : ℕ) → lampOf r l s v .state .settings ≡ cond (soundOf r) (entry (r .member) (r .settings) (Lamp l s v) lent) (r .settings)
-    unfolding lampOf lampAnswer lampMeets
-    lamp-enters l s v =
-        by-ledger (lampAnswer r l s v) (lampMeets (r .member) (r .settings) l s v) (putLevel (r .settings) (dotNumber l s) v)
-        (dot-accepted l s (leb v (topLevel (r .settings))) Level)
+-- ---- the ledger as a value of the program
 
-    pub group-enters : (l s g : ℕ) → groupOf r l s g .state .settings ≡ cond (soundOf r) (entry (r .member) (r .settings) (Group l s g) lent) (r .settings)
-    unfolding groupOf fieldAnswer fieldMeets
-    group-enters l s g =
-        by-ledger (fieldAnswer r l s g 3) (fieldMeets (r .member) l s g 3) (putField fields.the-variants.Group (r .settings) l s g)
-        (dot-accepted l s (leb g 3) GroupOrState)
+-- the ledger of a member that was told these calls
+abbrev pub ledgerOf : ℕ → List Told → Ledger
+ledgerOf m xs = record { member = m; bytes = ledger m xs }
 
-    pub switch-enters : (l s x : ℕ) → switchOf r l s x .state .settings ≡ cond (soundOf r) (entry (r .member) (r .settings) (Switch l s x) lent) (r .settings)
-    unfolding switchOf fieldAnswer fieldMeets
-    switch-enters l s x =
-        by-ledger (fieldAnswer r l s x 1) (fieldMeets (r .member) l s x 1) (putField fields.the-variants.Switch (r .settings) l s x)
-        (dot-accepted l s (leb x 1) GroupOrState)
+pub ledger-opened : (m : ℕ) → m < 5 → openedLedger m ≡ ledgerOf m []
+unfolding openedLedger
+ledger-opened m h = rw (lt-ltb m 5 h) refl
 
-    pub scene-enters : sceneOf r lent .state .settings ≡ cond (soundOf r) (entry (r .member) (r .settings) Scene lent) (r .settings)
-    unfolding sceneOf
-    scene-enters =
-        by-ledger (sceneAnswer r lent) (sceneMeets (r .member) (r .settings) lent) (putScene lent (r .settings) (sceneCount lent)) (scene-accepted lent)
+-- entering one more call gives the ledger that was told of it too: its bytes are always such as `enteredOf` takes
+pub ledger-entered : (m : ℕ) → m < 5 → (xs : List Told) (x : Told) → enteredOf (ledgerOf m xs) x ≡ ledgerOf m (xs ++ (x ∷ []))
+unfolding enteredOf
+ledger-entered m h xs x =
+    ap (λ (s : List ℕ). record { member = m; bytes = s })
+    (ap (λ (b : Bool). cond b (entered m (ledger m xs) x) (ledger m xs)) (ok-image m (ledger m xs) (entries-image m xs (resetImage m) (reset-image m h)))
+    ∙ sym (entries-last m xs x (resetImage m)))

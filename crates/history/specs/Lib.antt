@@ -2,6 +2,7 @@ pub mod Ledger
 pub mod Step
 pub mod History
 pub mod LedgerLaws
+pub mod MachineLaws
 pub mod WorldLaws
 pub mod RivalLaws
 pub mod Theorem

@@ -1,21 +1,21 @@
--- One call on a world, by the promises of the real calls and of Feed: document 01, "The ledger and whole lists". A world is a
--- record, `state`, and its chip; `lent` is the bytes of a scene, or the buffer of a call that writes a list.
+-- One call on a world, by the promises of the real calls and of Feed: document 01, "The ledger and whole lists". A world is a host's
+-- record, `host`, and its chip; `lent` is the bytes of a scene, or the buffer of a call that writes a list.
 -- Assumes nothing.
 use mathlib.Core.List.{List, [], _∷_}
 use Prim.Native.Nat.{ℕ, _+_, _*_, _≤_}
 use lib.ListN.{length, take}
 use Rattle.map.specs.Refusals.{answerNumber}
+use Rattle.calls.specs.declared.Request.{Request}
+use Rattle.calls.specs.declared.Request.the-variants.{Set, Reset, PowerLost, Update}
 use Rattle.host.specs.declared.Changed.{Changed}
-use Rattle.host.specs.Record.{registerOf, lampOf, groupOf, switchOf, sceneOf, powerLostOf}
+use Rattle.host.specs.Record.{settingOf, powerLostOf}
 use Rattle.update.specs.declared.ListAnswer.{ListAnswer}
 use Rattle.update.specs.declared.ListAnswer.the-variants.{Listed, Short, Refused}
 use Rattle.update.specs.declared.Updated.{Updated}
-use Rattle.update.specs.Update.{listNumbers, updateOf, updateBuffer, chipResetOf, resetBuffer, clearOf, clearOpensBuffer, clearShortsBuffer}
+use Rattle.update.specs.Update.{listNumbers, Sending, sendOf, sendBuffer, updating, resetting, clearingOpens, clearingShorts}
 use Rattle.chip.specs.declared.Chip.{Chip}
 use Rattle.chip.specs.Chip.{feedOf}
 use Rattle.history.specs.declared.World.{World}
-use Rattle.history.specs.declared.Request.{Request}
-use Rattle.history.specs.declared.Request.the-variants.{Register, Lamp, Group, Switch, Scene, Reset, PowerLost, Update}
 use Rattle.history.specs.declared.CallAnswer as answers
 use Rattle.history.specs.declared.Stepped.{Stepped}
 
@@ -47,42 +47,49 @@ Within (Refused r) size = Unit
 
 -- ---- A step
 
--- a call that answers a number alone, and the chip after it
-abbrev pub settingStep : Changed → Chip → Stepped
-settingStep x c = record { answer = answers.the-variants.Setting (x .answer); world = record { state = x .state; chip = c } }
+-- What a call does: its answer, the world after it, and the lent bytes as it leaves them.
+pub record Step : Type 0 where
+  pub answer : answers.CallAnswer
+  pub world : World
+  pub lent : List ℕ
 
--- a call that writes a list, the buffer after it, and the chip before it
-abbrev pub listStep : Updated → List ℕ → Chip → Stepped
-listStep x buffer c = record { answer = answers.the-variants.List (x .answer); world = record { state = x .state; chip = fedBy (x .answer) buffer c } }
+-- what the program gives back of a step, and the lent bytes as they then are
+abbrev pub leaving : Stepped → List ℕ → Step
+leaving x lent = record { answer = x .answer; world = x .world; lent = lent }
+
+-- a call that answers a number alone, and the chip after it; the lent bytes stay
+abbrev pub changeStep : Changed → Chip → List ℕ → Step
+changeStep x c lent = record {
+  answer = answers.the-variants.Setting (x .answer);
+  world = record { host = x .host; chip = c };
+  lent = lent;
+}
+
+-- a call that wrote a list, with the buffer after it and the chip before it
+abbrev pub listStep : Updated → List ℕ → Chip → Step
+listStep x buffer c = record {
+  answer = answers.the-variants.List (x .answer);
+  world = record { host = x .host; chip = fedBy (x .answer) buffer c };
+  lent = buffer;
+}
+
+-- every call that sends is such a one
+abbrev pub sendStep : World → Sending → List ℕ → Step
+sendStep w x buffer = listStep (sendOf (w .host) x (length buffer)) (sendBuffer (w .host) x buffer) (w .chip)
 
 -- "at Power lost the chip loses power."
-abbrev pub stepOf : World → Request → List ℕ → Stepped
-stepOf w (Register a v) lent = settingStep (registerOf (w .state) a v) (w .chip)
-stepOf w (Lamp l s v) lent = settingStep (lampOf (w .state) l s v) (w .chip)
-stepOf w (Group l s g) lent = settingStep (groupOf (w .state) l s g) (w .chip)
-stepOf w (Switch l s x) lent = settingStep (switchOf (w .state) l s x) (w .chip)
-stepOf w Scene lent = settingStep (sceneOf (w .state) lent) (w .chip)
-stepOf w Reset lent = listStep (chipResetOf (w .state) (length lent)) (resetBuffer (w .state) lent) (w .chip)
-stepOf w PowerLost lent = settingStep (powerLostOf (w .state)) (Rattle.chip.specs.Chip.powerLostOf (w .chip))
-stepOf w Update lent = listStep (updateOf (w .state) (length lent)) (updateBuffer (w .state) lent) (w .chip)
-
--- the lent bytes after it: those of a buffer where a list was written, all others as they were
-abbrev pub lentAfter : World → Request → List ℕ → List ℕ
-lentAfter w (Register a v) lent = lent
-lentAfter w (Lamp l s v) lent = lent
-lentAfter w (Group l s g) lent = lent
-lentAfter w (Switch l s x) lent = lent
-lentAfter w Scene lent = lent
-lentAfter w Reset lent = resetBuffer (w .state) lent
-lentAfter w PowerLost lent = lent
-lentAfter w Update lent = updateBuffer (w .state) lent
+abbrev pub stepOf : World → Request → List ℕ → Step
+stepOf w (Set q) lent = changeStep (settingOf (w .host) q lent) (w .chip) lent
+stepOf w Reset lent = sendStep w (resetting (w .host)) lent
+stepOf w PowerLost lent = changeStep (powerLostOf (w .host)) (Rattle.chip.specs.Chip.powerLostOf (w .chip)) lent
+stepOf w Update lent = sendStep w (updating (w .host)) lent
 
 -- ---- The Clears, which are no calls of the list of demand 3
 
 -- Clear opens: its list is fed as that of a Reset is
-abbrev pub clearOpensStep : World → List ℕ → Stepped
-clearOpensStep w buffer = listStep (clearOf (w .state) (length buffer)) (clearOpensBuffer (w .state) buffer) (w .chip)
+abbrev pub clearOpensStep : World → List ℕ → Step
+clearOpensStep w buffer = sendStep w (clearingOpens (w .host)) buffer
 
 -- Clear shorts likewise
-abbrev pub clearShortsStep : World → List ℕ → Stepped
-clearShortsStep w buffer = listStep (clearOf (w .state) (length buffer)) (clearShortsBuffer (w .state) buffer) (w .chip)
+abbrev pub clearShortsStep : World → List ℕ → Step
+clearShortsStep w buffer = sendStep w (clearingShorts (w .host)) buffer

@@ -1,71 +1,51 @@
--- What holds between a record, its chip and the ledger after every call, one lemma for each call.
+-- What holds between a record, its chip and the ledger after every call: one lemma for all settings, one for every call that sends, and
+-- what each such call has to show for it.
 -- Assumes nothing.
 use mathlib.Core.Path.{_≡_, refl, sym, ap, ap₂, _∙_, subst}
-use mathlib.Core.Bool.{Bool, true, false, cond}
+use mathlib.Core.Bool.{Bool, true, false, cond, true≢false}
 use mathlib.Core.List.{List, [], _∷_, _++_, map}
-use Prim.Native.Nat.{ℕ, _<_}
+use Prim.Native.Nat.{ℕ}
 use native.Mathlib.Omega.{arith}
-use borrow.Author.Tests.{lt-ltb, le-ltb}
 use lib.Dec.{leb}
 use lib.ListN.{length, take, drop}
-use Rattle.map.specs.Refusals.{openAnswer, opens}
+use Rattle.map.specs.declared.refusals.Answer.the-variants.{Accepted}
+use Rattle.map.specs.Refusals.{opens}
 use Rattle.map.specs.RefusalLaws.{opens-member}
 use Rattle.map.specs.Map.{writableOf}
 use Rattle.map.specs.Images.{resetImage}
-use Rattle.map.specs.ImageLaws.{Fit, Image, Registers, ok-image}
+use Rattle.map.specs.ImageLaws.{Image, Registers}
 use Rattle.burst.specs.Burst.{Burst, busBytes, encode}
-use Rattle.burst.specs.BurstLaws.{AllNamed, encode-length}
-use Rattle.plan.specs.Writes.{AllGood}
-use Rattle.plan.specs.Update.{valueAt, Same, storeAll, writeOf}
-use Rattle.plan.specs.Machine.{Machine, feedBy, Ready}
+use Rattle.burst.specs.BurstLaws.{encode-length}
+use Rattle.dots.specs.DotImages.{reset-image}
+use Rattle.plan.specs.Update.{valueAt, Same}
+use Rattle.plan.specs.Machine.{Ready}
 use Rattle.plan.specs.MachineLaws.{machine-best}
+use Rattle.calls.specs.declared.Setting.{Setting}
+use Rattle.calls.specs.declared.Request.{Request}
+use Rattle.calls.specs.declared.Request.the-variants.{Set, Reset, PowerLost, Update}
+use Rattle.host.specs.declared.Header.{Header}
 use Rattle.host.specs.declared.Record.{Record}
-use Rattle.host.specs.declared.Changed.{Changed}
-use Rattle.host.specs.Record.{recordOf, soundOf, whenSound, settled, opened, openState, openOf, registerOf, lampOf, groupOf, switchOf, sceneOf, soundAnswer, powerLostOf}
-use Rattle.host.specs.SoundLaws.{Sound, is-sound, reset-image, register-sound, lamp-sound, group-sound, switch-sound, scene-sound}
+use Rattle.host.specs.Record.{headerOf, recordOf, soundOf, mayWrite, whenSound, opened, openHost, openOf, changedTo, settingOf, soundAnswer, powerLostOf}
+use Rattle.host.specs.RecordLaws.{may-write}
+use Rattle.host.specs.SoundLaws.{Sound, is-sound}
 use Rattle.update.specs.declared.ListAnswer.{ListAnswer}
 use Rattle.update.specs.declared.ListAnswer.the-variants.{Listed, Short, Refused}
-use Rattle.update.specs.Update.{isListed, listSize, over, chipView, writesOf, updateAnswer, updateImage, updateOf, updateBuffer, commandWrite, commandAnswer, commandBuffer, chipResetOf, resetBuffer}
-use Rattle.update.specs.UpdateLaws.{enable-byte, image-layout, store-image, update-fits}
+use Rattle.update.specs.Update.{isListed, listSize, over, Sending, sendAnswer, sendOf, sendBuffer, writesOf, updating, resetting}
+use Rattle.update.specs.UpdateLaws.{enable-byte, image-layout, update-image}
 use Rattle.update.specs.BoundLaws.{update-sendable, names-writable}
 use Rattle.chip.specs.declared.Chip.{Chip}
 use Rattle.chip.specs.declared.Fed.{Fed}
-use Rattle.chip.specs.Chip.{chipOf, newChip, atResetOf, hear, feedOf}
-use Rattle.chip.specs.ChipLaws.{hear-registers, reset-registers}
-use Rattle.chip.specs.HearLaws.{hear-outside, hear-standby, hear-stores}
+use Rattle.chip.specs.Chip.{chipOf, newChip, atResetOf, feedOf}
+use Rattle.chip.specs.ChipLaws.{reset-registers}
 use Rattle.chip.specs.FeedLaws.{hearAll, hear-all-registers, feed-encoded, feed-reset, power-lost-is}
 use Rattle.history.specs.declared.World.{World}
-use Rattle.history.specs.declared.Ledger.{Ledger}
-use Rattle.history.specs.declared.Request.{Request}
-use Rattle.history.specs.declared.Request.the-variants.{Register, Lamp, Group, Switch, Scene, Reset, PowerLost, Update}
-use Rattle.history.specs.Ledger.{entry, openedLedger, enteredOf}
-use Rattle.history.specs.LedgerLaws.{register-enters, lamp-enters, group-enters, switch-enters, scene-enters}
-use Rattle.history.specs.Step.{listIn, fedBy, settingStep, listStep, stepOf}
-use Rattle.history.specs.History.{Call, start, run, worldAfter, entries, ledger}
+use Rattle.history.specs.Ledger.{entry, Told, toldOf, entered, entries, ledger}
+use Rattle.history.specs.LedgerLaws.{setting-enters, entry-image, entries-last}
+use Rattle.history.specs.Step.{listIn, fedBy, sendStep, stepOf}
+use Rattle.history.specs.History.{Call, start, run, worldAfter, tell, told, ledgerAfter}
+use Rattle.history.specs.MachineLaws.{may-writable, writable-may, machine, hear-all-is, good-named}
 
--- ---- the chip model as a machine of the crate plan
-
-abbrev pub machine : (m : ℕ) → Machine (writableOf m) 908
-machine m = record {
-  State = List ℕ;
-  byte = valueAt;
-  hear = hear m;
-  outside = λ rs x g a k o. hear-outside m rs x (g .each) a o;
-  standby = λ rs x g e a z k. hear-standby m rs x (g .each) e a z k;
-  Sound = Registers m;
-  keeps = λ rs x g s. hear-registers m rs x s;
-  Fit = Fit m;
-  stores = λ rs x g s i l f o. hear-stores m rs x (g .each) s i l f o;
-}
-
-pub hear-all-is : (m : ℕ) (rs : List ℕ) (xs : List Burst) → hearAll m rs xs ≡ feedBy (writableOf m) 908 (machine m) rs xs
-hear-all-is m rs [] = refl
-hear-all-is m rs (x ∷ xs) = hear-all-is m (hear m rs x) xs
-
--- writes to writable addresses have addresses of ten bits
-pub good-named : (m : ℕ) (xs : List Burst) → AllGood (writableOf m) 908 (map writeOf xs) → AllNamed xs
-good-named m [] g = tt
-good-named m (x ∷ xs) g = (omega (arith, g .0 .some, g .0 .fits), good-named m xs (g .1))
+-- ---- lists that are answered
 
 -- the front of the buffer is the list, so that the list alone is fed
 pub front : (b p : ℕ) (xs : List Burst) (buffer : List ℕ) → listIn (length xs) (busBytes xs) (over (encode b p xs) buffer) ≡ encode b p xs
@@ -76,14 +56,16 @@ front b p xs buffer =
     take-front [] y = refl
     take-front (v ∷ x) y = ap (λ (z : List ℕ). v ∷ z) (take-front x y)
 
-first-opens : (m : ℕ) → m < 5 → opens m 0 0 ≡ true
-unfolding opens openAnswer
-first-opens m h = rw (le-ltb 4 m (omega arith)) refl
+-- a chip is fed nothing where no list was written
+not-fed : (answer : ListAnswer) (buffer : List ℕ) (c : Chip) → isListed answer ≡ false → fedBy answer buffer c ≡ c
+not-fed (Listed n t) buffer c e = absurd (true≢false e)
+not-fed (Short needed) buffer c e = refl
+not-fed (Refused r) buffer c e = refl
 
 -- ---- the invariant
 
 abbrev pub worldOf : ℕ → ℕ → ℕ → List ℕ → List ℕ → List ℕ → World
-worldOf m b p settings image registers = record { state = recordOf m b p settings image; chip = chipOf m b p registers }
+worldOf m b p settings image registers = record { host = recordOf (headerOf m b p) settings image; chip = chipOf m b p registers }
 
 -- The record is sound and has the ledger's bytes s for its settings; the chip is sound, of the same member, bus and pins; and the
 -- record's image has the chip's writable bytes.
@@ -98,7 +80,7 @@ pub record Holds (m b p : ℕ) (s : List ℕ) (w : World) : Type 0 where
 
 module _ (m b p : ℕ) (o : opens m b p ≡ true) where
   pub start-holds : Holds m b p (resetImage m) (start m b p)
-  unfolding openOf openState opened atResetOf newChip opens
+  unfolding openOf openHost opened atResetOf newChip opens
   start-holds = record {
     image = resetImage m;
     registers = resetImage m;
@@ -109,212 +91,195 @@ module _ (m b p : ℕ) (o : opens m b p ≡ true) where
     same = λ a l k. refl;
   }
 
-  module _ (s image registers : List ℕ) (fs : Image m s) (fi : Image m image) (fr : Registers m registers)
-      (same : Same (writableOf m) 908 (valueAt image) (valueAt registers)) where
-    abbrev state : Record
-    state = recordOf m b p s image
+  -- a world for which it holds
+  module _ (s : List ℕ) (w : World) (h : Holds m b p s w) where
+    abbrev header : Header
+    header = headerOf m b p
+
+    abbrev host : Record
+    host = recordOf header s (h .image)
 
     abbrev chip : Chip
-    chip = chipOf m b p registers
+    chip = chipOf m b p (h .registers)
 
-    sound : Sound state
-    sound = record { opened = o; settings = fs; image = fi }
+    abbrev world : World
+    world = worldOf m b p s (h .image) (h .registers)
 
-    is-so : soundOf state ≡ true
-    is-so = is-sound state sound
+    sound : Sound host
+    sound = record { opened = o; settings = h .settings-fit; image = h .image-fit }
+
+    pub is-so : soundOf host ≡ true
+    is-so = is-sound host sound
+
+    chip-sound : Rattle.chip.specs.ChipLaws.Sound chip
+    chip-sound = record { opened = o; registers = h .registers-fit }
 
     -- ---- a setting
 
-    enters : (x : Changed) (new : List ℕ) → x .state ≡ recordOf m b p (x .state .settings) image → x .state .settings ≡ cond (soundOf state) new s →
-        Sound (x .state) → Holds m b p new (settingStep x chip .world)
-    enters x new e f z =
-        let n : x .state ≡ recordOf m b p new image =
-        e ∙ ap (λ (y : List ℕ). recordOf m b p y image) (f ∙ ap (λ (c : Bool). cond c new s) is-so) in
+    setting-holds : (q : Setting) (lent : List ℕ) → Holds m b p (entry m s (Set q) lent) (stepOf world (Set q) lent .world)
+    unfolding settingOf changedTo
+    setting-holds q lent =
+        let new : List ℕ = entry m s (Set q) lent in
+        let e : settingOf host q lent .host .settings ≡ new = setting-enters host q lent ∙ ap (λ (c : Bool). cond c new s) is-so in
         record {
-          image = image;
-          registers = registers;
-          is = ap (λ (r : Record). record { state = r; chip = chip }) n;
-          settings-fit = subst Sound n z .settings;
-          image-fit = fi;
-          registers-fit = fr;
-          same = same;
+          image = h .image;
+          registers = h .registers;
+          is = ap (λ (y : List ℕ). worldOf m b p y (h .image) (h .registers)) e;
+          settings-fit = entry-image m s (h .settings-fit) (Set q) lent;
+          image-fit = h .image-fit;
+          registers-fit = h .registers-fit;
+          same = h .same;
         }
 
-    register-holds : (a v : ℕ) (lent : List ℕ) → Holds m b p (entry m s (Register a v) lent) (settingStep (registerOf state a v) chip .world)
-    unfolding registerOf settled
-    register-holds a v lent = enters (registerOf state a v) (entry m s (Register a v) lent) refl (register-enters state lent a v) (register-sound state a v sound)
+    -- ---- a call that sends
 
-    lamp-holds : (l k v : ℕ) (lent : List ℕ) → Holds m b p (entry m s (Lamp l k v) lent) (settingStep (lampOf state l k v) chip .world)
-    unfolding lampOf settled
-    lamp-holds l k v lent = enters (lampOf state l k v) (entry m s (Lamp l k v) lent) refl (lamp-enters state lent l k v) (lamp-sound state l k v sound)
+    -- What it has to show: it answers no list of a short buffer, the chip takes its list, and the image that it leaves has the writable bytes of
+    -- the chip then.
+    pub record Follows (x : Sending) : Type 0 where
+      pub no-list : isListed (x .short) ≡ false
+      pub after : List ℕ
+      pub fed : feedOf chip (encode b p (x .writes)) .chip ≡ chipOf m b p after
+      pub image-fit : Image m (x .image)
+      pub after-fit : Registers m after
+      pub follows : Same (writableOf m) 908 (valueAt (x .image)) (valueAt after)
 
-    group-holds : (l k g : ℕ) (lent : List ℕ) → Holds m b p (entry m s (Group l k g) lent) (settingStep (groupOf state l k g) chip .world)
-    unfolding groupOf settled
-    group-holds l k g lent = enters (groupOf state l k g) (entry m s (Group l k g) lent) refl (group-enters state lent l k g) (group-sound state l k g sound)
+    -- nothing was sent
+    stays : Holds m b p s world
+    stays = subst (Holds m b p s) (h .is) h
 
-    switch-holds : (l k x : ℕ) (lent : List ℕ) → Holds m b p (entry m s (Switch l k x) lent) (settingStep (switchOf state l k x) chip .world)
-    unfolding switchOf settled
-    switch-holds l k x lent = enters (switchOf state l k x) (entry m s (Switch l k x) lent) refl (switch-enters state lent l k x) (switch-sound state l k x sound)
+    sent-holds : (x : Sending) → Follows x → (buffer : List ℕ) → Holds m b p s (sendStep world x buffer .world)
+    unfolding sendOf sendAnswer sendBuffer
+    sent-holds x f buffer = rw (is-so) (go (leb (listSize (x .writes)) (length buffer)))
+      where
+        listed : Holds m b p s (worldOf m b p s (x .image) (f .after))
+        listed = record {
+          image = x .image;
+          registers = f .after;
+          is = refl;
+          settings-fit = h .settings-fit;
+          image-fit = f .image-fit;
+          registers-fit = f .after-fit;
+          same = f .follows;
+        }
 
-    scene-holds : (lent : List ℕ) → Holds m b p (entry m s Scene lent) (settingStep (sceneOf state lent) chip .world)
-    unfolding sceneOf settled
-    scene-holds lent = enters (sceneOf state lent) (entry m s Scene lent) refl (scene-enters state lent) (scene-sound state lent sound)
+        answer : Bool → ListAnswer
+        answer c = cond c (Listed (length (x .writes)) (busBytes (x .writes))) (x .short)
 
-    -- ---- the chip at reset values, and the record told so
+        go : (c : Bool) → Holds m b p s (record {
+          host = recordOf header s (cond (isListed (answer c)) (x .image) (h .image));
+          chip = fedBy (answer c) (cond (isListed (answer c)) (over (encode b p (x .writes)) buffer) buffer) chip;
+        })
+        go true =
+            subst (λ (c : Chip). Holds m b p s (record { host = recordOf header s (x .image); chip = c }))
+            (sym (ap (λ (l : List ℕ). feedOf chip l .chip) (front b p (x .writes) buffer) ∙ f .fed)) listed
+        go false =
+            rw (f .no-list)
+            (subst (λ (c : Chip). Holds m b p s (record { host = host; chip = c })) (sym (not-fed (x .short) buffer chip (f .no-list))) stays)
 
-    reset-holds : Holds m b p s (worldOf m b p s (resetImage m) (resetImage m))
-    reset-holds = record {
+    -- Update
+
+    pub ready : Ready (mayWrite header) 908 (machine header) s (h .image) (h .registers)
+    ready = record {
+      images = record {
+        layout = image-layout header s (h .settings-fit);
+        size = h .image-fit .size;
+        want-enable = enable-byte m (valueAt s 0) (h .settings-fit .member) (h .settings-fit .fits 0 (omega arith));
+        have-enable = enable-byte m (valueAt (h .image) 0) (h .image-fit .member) (h .image-fit .fits 0 (omega arith));
+      };
+      same = λ a l k. h .same a l (may-writable header a k);
+      sound = h .registers-fit;
+      fit = λ a l k. h .settings-fit .fits a l;
+    }
+
+    -- the update's list, fed to the chip
+    pub update-fed : feedOf chip (encode b p (writesOf host)) ≡ record { answer = Accepted; chip = chipOf m b p (hearAll m (h .registers) (writesOf host)) }
+    update-fed = feed-encoded chip chip-sound (writesOf host) (update-sendable host is-so) (good-named header (writesOf host) (names-writable host is-so))
+
+    update-follows : Follows (updating host)
+    unfolding writesOf
+    update-follows = record {
+      no-list = refl;
+      after = hearAll m (h .registers) (writesOf host);
+      fed = ap (λ (f : Fed). f .chip) update-fed;
+      image-fit = update-image host sound;
+      after-fit = hear-all-registers m (h .registers) (writesOf host) (h .registers-fit);
+      follows = λ a l k.
+          machine-best (mayWrite header) 908 (machine header) s (h .image) (h .registers) ready .follows a l (writable-may header a k)
+          ∙ ap (λ (rs : List ℕ). valueAt rs a) (sym (hear-all-is header (h .registers) (writesOf host)));
+    }
+
+    -- Reset
+
+    reset-follows : Follows (resetting host)
+    unfolding newChip
+    reset-follows = record {
+      no-list = refl;
+      after = resetImage m;
+      fed = ap (λ (f : Fed). f .chip) (feed-reset chip chip-sound);
+      image-fit = reset-image m (h .settings-fit .member);
+      after-fit = reset-registers m (h .settings-fit .member);
+      follows = λ a l k. refl;
+    }
+
+    -- ---- Power lost: the chip at reset values, and the record told so
+
+    power-holds : (lent : List ℕ) → Holds m b p s (stepOf world PowerLost lent .world)
+    unfolding powerLostOf soundAnswer whenSound newChip
+    power-holds lent = record {
       image = resetImage m;
       registers = resetImage m;
-      is = refl;
-      settings-fit = fs;
-      image-fit = reset-image m (fs .member);
-      registers-fit = reset-registers m (fs .member);
+      is = ap₂ (λ (r : Record) (c : Chip). record { host = r; chip = c }) (rw (is-so) refl) (power-lost-is chip chip-sound);
+      settings-fit = h .settings-fit;
+      image-fit = reset-image m (h .settings-fit .member);
+      registers-fit = reset-registers m (h .settings-fit .member);
       same = λ a l k. refl;
     }
 
-    -- nothing was sent
-    stays : Holds m b p s (worldOf m b p s image registers)
-    stays = record { image = image; registers = registers; is = refl; settings-fit = fs; image-fit = fi; registers-fit = fr; same = same }
+    -- ---- every call
 
-    chip-sound : Rattle.chip.specs.ChipLaws.Sound chip
-    chip-sound = record { opened = o; registers = fr }
-
-    -- the record has reset values for its image
-    told : powerLostOf state .state ≡ recordOf m b p s (resetImage m)
-    unfolding powerLostOf soundAnswer whenSound
-    told = rw (is-so) refl
-
-    power-holds : Holds m b p s (settingStep (powerLostOf state) (Rattle.chip.specs.Chip.powerLostOf chip) .world)
-    unfolding newChip
-    power-holds =
-        subst (λ (w : World). Holds m b p s w)
-        (ap₂ (λ (r : Record) (c : Chip). record { state = r; chip = c }) (sym told) (sym (power-lost-is chip chip-sound))) reset-holds
-
-    -- ---- a list that is answered
-
-    good : AllGood (writableOf m) 908 (map writeOf (writesOf state))
-    good = names-writable state is-so
-
-    -- the update's list, fed to the chip
-    pub update-fed : feedOf chip (encode b p (writesOf state)) ≡ record { answer = Rattle.map.specs.declared.refusals.Answer.the-variants.Accepted; chip = chipOf m b p (hearAll m registers (writesOf state)) }
-    update-fed = feed-encoded chip chip-sound (writesOf state) (update-sendable state is-so) (good-named m (writesOf state) good)
-
-    pub ready : Ready (writableOf m) 908 (machine m) s image registers
-    ready = record {
-      images = record {
-        layout = image-layout m s fs;
-        size = fi .size;
-        want-enable = enable-byte m (valueAt s 0) (fs .member) (fs .fits 0 (omega arith));
-        have-enable = enable-byte m (valueAt image 0) (fi .member) (fi .fits 0 (omega arith));
-      };
-      same = same;
-      sound = fr;
-      fit = λ a l k. fs .fits a l;
-    }
-
-    updated-holds : Holds m b p s (worldOf m b p s (storeAll (writesOf state) image) (hearAll m registers (writesOf state)))
-    unfolding writesOf
-    updated-holds = record {
-      image = storeAll (writesOf state) image;
-      registers = hearAll m registers (writesOf state);
-      is = refl;
-      settings-fit = fs;
-      image-fit = store-image m (writesOf state) (update-fits m s fs (chipView s image)) image fi;
-      registers-fit = hear-all-registers m registers (writesOf state) fr;
-      same = λ a l k.
-          machine-best (writableOf m) 908 (machine m) s image registers ready .follows a l k
-          ∙ ap (λ (rs : List ℕ). valueAt rs a) (sym (hear-all-is m registers (writesOf state)));
-    }
-
-    -- a list of these writes that is fed
-    sent-holds : (l : List ℕ) → l ≡ encode b p (writesOf state) → Holds m b p s (record { state = recordOf m b p s (storeAll (writesOf state) image); chip = feedOf chip l .chip })
-    sent-holds l e =
-        subst (λ (f : Fed). Holds m b p s (record { state = recordOf m b p s (storeAll (writesOf state) image); chip = f .chip }))
-        (sym (ap (feedOf chip) e ∙ update-fed)) updated-holds
-
-    update-holds : (buffer : List ℕ) → Holds m b p s (listStep (updateOf state (length buffer)) (updateBuffer state buffer) chip .world)
-    unfolding updateOf updateImage updateBuffer updateAnswer
-    update-holds buffer = rw (is-so) (go (leb (listSize (writesOf state)) (length buffer)))
-      where
-        answer : Bool → ListAnswer
-        answer c = cond c (Listed (length (writesOf state)) (busBytes (writesOf state))) (Short (listSize (writesOf state)))
-
-        go : (c : Bool) → Holds m b p s (record {
-          state = recordOf m b p s (cond (isListed (answer c)) (storeAll (writesOf state) image) image);
-          chip = fedBy (answer c) (cond (isListed (answer c)) (over (encode b p (writesOf state)) buffer) buffer) chip;
-        })
-        go true = sent-holds (listIn (length (writesOf state)) (busBytes (writesOf state)) (over (encode b p (writesOf state)) buffer)) (front b p (writesOf state) buffer)
-        go false = stays
-
-    reset-call-holds : (buffer : List ℕ) → Holds m b p s (listStep (chipResetOf state (length buffer)) (resetBuffer state buffer) chip .world)
-    unfolding chipResetOf commandAnswer commandBuffer newChip
-    reset-call-holds buffer = rw (is-so) (go (leb 9 (length buffer)))
-      where
-        answer : Bool → ListAnswer
-        answer c = cond c (Listed 1 3) (Refused Rattle.map.specs.declared.refusals.Refusal.the-variants.BufferShort)
-
-        fed : feedOf chip (listIn 1 3 (over (encode b p (commandWrite 0x0A9 0xFF)) buffer)) ≡ record { answer = Rattle.map.specs.declared.refusals.Answer.the-variants.Accepted; chip = newChip m b p }
-        fed = ap (feedOf chip) (front b p (commandWrite 0x0A9 0xFF) buffer) ∙ feed-reset chip chip-sound
-
-        go : (c : Bool) → Holds m b p s (record {
-          state = recordOf m b p s (cond (isListed (answer c)) (resetImage m) image);
-          chip = fedBy (answer c) (cond (isListed (answer c)) (over (encode b p (commandWrite 0x0A9 0xFF)) buffer) buffer) chip;
-        })
-        go true = subst (λ (f : Fed). Holds m b p s (record { state = recordOf m b p s (resetImage m); chip = f .chip })) (sym fed) reset-holds
-        go false = stays
-
-    -- every call
-    holds-call : (request : Request) (lent : List ℕ) → Holds m b p (entry m s request lent) (stepOf (worldOf m b p s image registers) request lent .world)
-    holds-call (Register a v) lent = register-holds a v lent
-    holds-call (Lamp l k v) lent = lamp-holds l k v lent
-    holds-call (Group l k g) lent = group-holds l k g lent
-    holds-call (Switch l k x) lent = switch-holds l k x lent
-    holds-call Scene lent = scene-holds lent
-    holds-call Reset lent = reset-call-holds lent
-    holds-call PowerLost lent = power-holds
-    holds-call Update lent = update-holds lent
+    call-holds : (request : Request) (lent : List ℕ) → Holds m b p (entry m s request lent) (stepOf world request lent .world)
+    call-holds (Set q) lent = setting-holds q lent
+    call-holds Reset lent = sent-holds (resetting host) reset-follows lent
+    call-holds PowerLost lent = power-holds lent
+    call-holds Update lent = sent-holds (updating host) update-follows lent
 
   -- after one call, and so after any list of them
-  pub step-holds : (s : List ℕ) (w : World) → Holds m b p s w → (request : Request) (lent : List ℕ) →
-      Holds m b p (entry m s request lent) (stepOf w request lent .world)
-  step-holds s w h request lent =
-      subst (λ (x : World). Holds m b p (entry m s request lent) (stepOf x request lent .world)) (sym (h .is))
-      (holds-call s (h .image) (h .registers) (h .settings-fit) (h .image-fit) (h .registers-fit) (h .same) request lent)
+  pub step-holds : (s : List ℕ) (w : World) → Holds m b p s w → (c : Call) → Holds m b p (entered m s (tell w c)) (stepOf w (c .request) (c .lent) .world)
+  step-holds s w h c =
+      subst (λ (x : World). Holds m b p (entered m s (tell x c)) (stepOf x (c .request) (c .lent) .world)) (sym (h .is))
+      (call-holds s w h (c .request) (c .lent))
 
-  pub run-holds : (calls : List Call) (s : List ℕ) (w : World) → Holds m b p s w → Holds m b p (entries m s calls) (run w calls)
+  pub run-holds : (calls : List Call) (s : List ℕ) (w : World) → Holds m b p s w → Holds m b p (entries m s (told w calls)) (run w calls)
   run-holds [] s w h = h
-  run-holds (c ∷ cs) s w h =
-      run-holds cs (entry m s (c .request) (c .lent)) (stepOf w (c .request) (c .lent) .world) (step-holds s w h (c .request) (c .lent))
+  run-holds (c ∷ cs) s w h = run-holds cs (entered m s (tell w c)) (stepOf w (c .request) (c .lent) .world) (step-holds s w h c)
 
-  pub history-holds : (calls : List Call) → Holds m b p (ledger m calls) (worldAfter m b p calls)
+  pub history-holds : (calls : List Call) → Holds m b p (ledgerAfter m b p calls) (worldAfter m b p calls)
   history-holds calls = run-holds calls (resetImage m) (start m b p) start-holds
 
--- ---- the last call of a list
+  -- the header is always the opened one,
+  pub header-after : (calls : List Call) → worldAfter m b p calls .host .header ≡ headerOf m b p
+  header-after calls = ap (λ (w : World). w .host .header) (history-holds calls .is)
+
+  -- so that the addresses that may be written are always the member's writable ones
+  pub may-write-after : (calls : List Call) (a : ℕ) → mayWrite (worldAfter m b p calls .host .header) a ≡ writableOf m a
+  may-write-after calls a = ap (λ (h : Header). mayWrite h a) (header-after calls) ∙ may-write (headerOf m b p) a
+
+-- ---- lists of calls
+
+-- "never an answer": whatever the world, the ledger is told the calls and nothing else
+pub told-calls : (calls : List Call) (w : World) → told w calls ≡ map (λ (c : Call). toldOf (c .request) (c .lent)) calls
+told-calls [] w = refl
+told-calls (c ∷ cs) w = ap (λ (xs : List Told). tell w c ∷ xs) (told-calls cs (stepOf w (c .request) (c .lent) .world))
 
 pub run-last : (xs : List Call) (c : Call) (w : World) → run w (xs ++ (c ∷ [])) ≡ stepOf (run w xs) (c .request) (c .lent) .world
 run-last [] c w = refl
 run-last (x ∷ xs) c w = run-last xs c (stepOf w (x .request) (x .lent) .world)
 
-pub entries-last : (m : ℕ) (xs : List Call) (c : Call) (s : List ℕ) → entries m s (xs ++ (c ∷ [])) ≡ entry m (entries m s xs) (c .request) (c .lent)
-entries-last m [] c s = refl
-entries-last m (x ∷ xs) c s = entries-last m xs c (entry m s (x .request) (x .lent))
+told-last : (xs : List Call) (c : Call) (w : World) → told w (xs ++ (c ∷ [])) ≡ told w xs ++ (tell (run w xs) c ∷ [])
+told-last [] c w = refl
+told-last (x ∷ xs) c w = ap (λ (l : List Told). tell w x ∷ l) (told-last xs c (stepOf w (x .request) (x .lent) .world))
 
--- ---- the ledger as a value of the program
-
--- the ledger of a member after these calls
-abbrev pub ledgerOf : ℕ → List Call → Ledger
-ledgerOf m calls = record { member = m; bytes = ledger m calls }
-
-pub ledger-opened : (m : ℕ) → m < 5 → openedLedger m ≡ ledgerOf m []
-unfolding openedLedger
-ledger-opened m h = rw (lt-ltb m 5 h) refl
-
--- entering one more call gives the ledger after that call: its bytes are always such as `enteredOf` takes
-pub ledger-entered : (m : ℕ) → m < 5 → (calls : List Call) (c : Call) → enteredOf (ledgerOf m calls) (c .request) (c .lent) ≡ ledgerOf m (calls ++ (c ∷ []))
-unfolding enteredOf
-ledger-entered m h calls c =
-    ap (λ (s : List ℕ). record { member = m; bytes = s })
-    (ap (λ (b : Bool). cond b (entry m (ledger m calls) (c .request) (c .lent)) (ledger m calls))
-    (ok-image m (ledger m calls) (history-holds m 0 0 (first-opens m h) calls .settings-fit))
-    ∙ sym (entries-last m calls c (resetImage m)))
+pub ledger-last : (m b p : ℕ) (calls : List Call) (c : Call) →
+    ledgerAfter m b p (calls ++ (c ∷ [])) ≡ entered m (ledgerAfter m b p calls) (tell (worldAfter m b p calls) c)
+ledger-last m b p calls c =
+    ap (ledger m) (told-last calls c (start m b p)) ∙ entries-last m (told (start m b p) calls) (tell (worldAfter m b p calls) c) (resetImage m)

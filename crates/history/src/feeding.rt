@@ -1,13 +1,11 @@
 // The calls that write a list: what is answered is fed to the chip at once, exactly its 4 + 2n + t bytes.
 ghost use mathlib.Core.Path.{_≡_};
 ghost use lib.ListN.{length};
-ghost use Rattle.update.specs.Update.{updateBuffer, resetBuffer, clearOpensBuffer, clearShortsBuffer, updateOf, chipResetOf, clearOf};
-ghost use Rattle.history.specs.Step.{Within, fedBy, listStep};
+ghost use Rattle.history.specs.Step.{Within, fedBy, leaving, listStep};
 use crate::CallAnswer;
 use crate::Stepped;
 use crate::World;
 use chip::Chip;
-use host::Record;
 use update::ListAnswer;
 use update::Updated;
 
@@ -29,51 +27,20 @@ fn fed(answer: ListAnswer, chip: Chip, buffer: &[u8]) -> Chip
     }
 }
 
-fn list_step(updated: Updated, chip: Chip, buffer: &[u8]) -> Stepped
+// What such a call gave back, and the buffer that it left.
+pub(crate) fn listed(updated: Updated, chip: Chip, buffer: &[u8]) -> Stepped
     requires { ⌜ Within (updated .answer) (length (now buffer)) ⌝ }
-    ensures { λ r. ⌜ r ≡ listStep updated (now (buffer .entry)) chip ⌝ }
+    ensures { λ r. ⌜ leaving r (now (buffer .entry)) ≡ listStep updated (now (buffer .entry)) chip ⌝ }
 {
     let answer = updated.answer;
-    let state = updated.state;
+    let host = updated.host;
     let after = fed(answer, chip, buffer);
     let world = World {
-        state: state,
+        host: host,
         chip: after,
     };
     Stepped {
         answer: CallAnswer::List(answer),
         world: world,
     }
-}
-
-pub(crate) fn update(state: Record, chip: Chip, buffer: &mut [u8]) -> Stepped
-    ensures { λ r. ⌜ r ≡ listStep (updateOf state (length (now (buffer .entry)))) (updateBuffer state (now (buffer .entry))) chip ⌝ }
-    ensures { λ _. ⌜ now (buffer .exit) ≡ updateBuffer state (now (buffer .entry)) ⌝ }
-{
-    let updated = update::update(state, buffer);
-    list_step(updated, chip, buffer)
-}
-
-pub(crate) fn reset(state: Record, chip: Chip, buffer: &mut [u8]) -> Stepped
-    ensures { λ r. ⌜ r ≡ listStep (chipResetOf state (length (now (buffer .entry)))) (resetBuffer state (now (buffer .entry))) chip ⌝ }
-    ensures { λ _. ⌜ now (buffer .exit) ≡ resetBuffer state (now (buffer .entry)) ⌝ }
-{
-    let updated = update::reset(state, buffer);
-    list_step(updated, chip, buffer)
-}
-
-pub(crate) fn clear_opens(state: Record, chip: Chip, buffer: &mut [u8]) -> Stepped
-    ensures { λ r. ⌜ r ≡ listStep (clearOf state (length (now (buffer .entry)))) (clearOpensBuffer state (now (buffer .entry))) chip ⌝ }
-    ensures { λ _. ⌜ now (buffer .exit) ≡ clearOpensBuffer state (now (buffer .entry)) ⌝ }
-{
-    let updated = update::clear_opens(state, buffer);
-    list_step(updated, chip, buffer)
-}
-
-pub(crate) fn clear_shorts(state: Record, chip: Chip, buffer: &mut [u8]) -> Stepped
-    ensures { λ r. ⌜ r ≡ listStep (clearOf state (length (now (buffer .entry)))) (clearShortsBuffer state (now (buffer .entry))) chip ⌝ }
-    ensures { λ _. ⌜ now (buffer .exit) ≡ clearShortsBuffer state (now (buffer .entry)) ⌝ }
-{
-    let updated = update::clear_shorts(state, buffer);
-    list_step(updated, chip, buffer)
 }

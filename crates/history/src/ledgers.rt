@@ -3,12 +3,13 @@
 ghost use mathlib.Core.Path.{_≡_};
 ghost use mathlib.Core.Bool.{cond};
 ghost use lib.Dec.{ltb};
-ghost use Rattle.map.specs.Images.{imageOk, resetImage};
-ghost use Rattle.host.specs.Record.{recordOf};
+ghost use Rattle.map.specs.Images.{imageOk};
+ghost use Rattle.calls.specs.declared.Request.the-variants.{Set};
 ghost use Rattle.history.specs.Ledger.{entry, openedLedger};
 use crate::Ledger;
-use crate::Request;
-use host::Changed;
+use calls::Request;
+use calls::Setting;
+use host::Header;
 use host::Record;
 
 // The number of a member that can be opened, else 0.
@@ -29,11 +30,23 @@ pub(crate) fn opened(member: usize) -> Ledger
     }
 }
 
-fn settings_of(changed: Changed) -> [u8; 908]
-    ensures { λ r. ⌜ r ≡ changed .state .settings ⌝ }
+// The bytes after a setting.
+fn set(member: u8, bytes: [u8; 908], setting: Setting, lent: &[u8]) -> [u8; 908]
+    ensures { λ r. ⌜ r ≡ cond (imageOk member bytes) (entry member bytes (Set setting) (now (lent .entry))) bytes ⌝ }
 {
-    let state = changed.state;
-    let settings = state.settings;
+    let header = Header {
+        member: member,
+        bus: 0,
+        pins: 0,
+    };
+    let asked = Record {
+        header: header,
+        settings: bytes,
+        image: bytes,
+    };
+    let changed = host::set(asked, setting, lent);
+    let after = changed.host;
+    let settings = after.settings;
     settings
 }
 
@@ -41,24 +54,8 @@ fn settings_of(changed: Changed) -> [u8; 908]
 pub(crate) fn entered(member: u8, bytes: [u8; 908], request: Request, lent: &[u8]) -> [u8; 908]
     ensures { λ r. ⌜ r ≡ cond (imageOk member bytes) (entry member bytes request (now (lent .entry))) bytes ⌝ }
 {
-    let asked = Record {
-        member: member,
-        bus: 0,
-        pins: 0,
-        settings: bytes,
-        image: bytes,
-    };
     match request {
-        Request::Register { address, value } => settings_of(host::register(asked, address, value)),
-        Request::Lamp { line, sink, level } => settings_of(host::lamp(asked, line, sink, level)),
-        Request::Group { line, sink, group } => settings_of(host::group(asked, line, sink, group)),
-        Request::Switch { line, sink, state } => settings_of(host::switch(
-            asked,
-            line,
-            sink,
-            state,
-        )),
-        Request::Scene => settings_of(host::scene(asked, lent)),
+        Request::Set(setting) => set(member, bytes, setting, lent),
         Request::Reset => bytes,
         Request::PowerLost => bytes,
         Request::Update => bytes,

@@ -1,53 +1,29 @@
 // Whole histories: one call after the other on a host's record and on its chip.
 //
-// A world is a record and the chip that it stands for. A step makes one call on the record, feeds the list that it answers to the
-// chip at once, and takes the chip's power where the record is told that it was lost. The ledger is what was asked for: it is
-// given the calls and never an answer. specs/History.antt has the claim about whole lists of calls, specs/Theorem.antt its
+// A world is a host's record and the chip that it stands for. A step makes one call on the record, feeds the list that it answers to
+// the chip at once, and takes the chip's power where the record is told that it was lost. The ledger is what was asked for: it is
+// told the calls and never an answer. specs/History.antt has the claim about whole lists of calls, specs/Theorem.antt its
 // proof: after an accepted update that wants the chip on, the chip holds what the ledger says, and no list does it in fewer bytes.
 mod feeding;
 mod ledgers;
 
 ghost use mathlib.Core.Path.{_≡_};
-ghost use Rattle.history.specs.Step.{settingStep, stepOf, lentAfter, clearOpensStep, clearShortsStep};
-ghost use Rattle.history.specs.Ledger.{openedLedger, enteredOf};
-ghost use Rattle.update.specs.Update.{clearOpensBuffer, clearShortsBuffer};
+ghost use mathlib.Core.List.{List};
+ghost use Prim.Native.Nat.{ℕ};
+ghost use Rattle.map.specs.Refusals.{numbersOf};
+ghost use Rattle.history.specs.Step.{callNumbers, leaving, changeStep, stepOf, clearOpensStep, clearShortsStep};
+ghost use Rattle.history.specs.Ledger.{toldOf, openedLedger, enteredOf};
+use calls::Request;
 use chip::Chip;
 use host::Changed;
 use host::Record;
 use map::Answer;
 use update::ListAnswer;
 
-// A record and its chip.
+// A host's record and its chip.
 pub struct World {
-    pub state: Record,
+    pub host: Record,
     pub chip: Chip,
-}
-
-// A call with its arguments. The bytes of a Scene and the buffer of a Reset or an Update are lent beside it.
-pub enum Request {
-    Register {
-        address: usize,
-        value: u8,
-    },
-    Lamp {
-        line: usize,
-        sink: usize,
-        level: usize,
-    },
-    Group {
-        line: usize,
-        sink: usize,
-        group: usize,
-    },
-    Switch {
-        line: usize,
-        sink: usize,
-        state: usize,
-    },
-    Scene,
-    Reset,
-    PowerLost,
-    Update,
 }
 
 // What a call answers: a setting or Power lost a number alone, the others a list.
@@ -68,50 +44,48 @@ pub struct Ledger {
     pub bytes: [u8; 908],
 }
 
-// One call on a world.
-pub fn step(world: World, request: Request, lent: &mut [u8]) -> Stepped
-    ensures { λ r. ⌜ r ≡ stepOf world request (now (lent .entry)) ⌝ }
-    ensures { λ _. ⌜ now (lent .exit) ≡ lentAfter world request (now (lent .entry)) ⌝ }
+// The number of an answer and its values.
+pub fn call_numbers(answer: CallAnswer) -> map::Numbers
+    ensures { λ r. ⌜ r ≡ numbersOf (callNumbers answer) ⌝ }
 {
-    let state = world.state;
+    match answer {
+        CallAnswer::Setting(number) => map::answer_numbers(number),
+        CallAnswer::List(list) => update::list_numbers(list),
+    }
+}
+
+// One call on a world. The bytes of a Scene and the buffer of a Reset or an Update are lent.
+pub fn step(world: World, request: Request, lent: &mut [u8]) -> Stepped
+    ensures { λ r. ⌜ leaving r (now (lent .exit)) ≡ stepOf world request (now (lent .entry)) ⌝ }
+{
+    let host = world.host;
     let chip = world.chip;
     match request {
-        Request::Register { address, value } => setting_step(
-            host::register(state, address, value),
-            chip,
-        ),
-        Request::Lamp { line, sink, level } => setting_step(
-            host::lamp(state, line, sink, level),
-            chip,
-        ),
-        Request::Group { line, sink, group } => setting_step(
-            host::group(state, line, sink, group),
-            chip,
-        ),
-        Request::Switch {
-            line,
-            sink,
-            state: on,
-        } => setting_step(host::switch(state, line, sink, on), chip),
-        Request::Scene => setting_step(host::scene(state, lent), chip),
-        Request::Reset => feeding::reset(state, chip, lent),
-        Request::PowerLost => {
-            let changed = host::power_lost(state);
-            let reset = chip::power_lost(chip);
-            setting_step(changed, reset)
+        Request::Set(setting) => changed(host::set(host, setting, lent), chip),
+        Request::Reset => {
+            let updated = update::reset(host, lent);
+            feeding::listed(updated, chip, lent)
         }
-        Request::Update => feeding::update(state, chip, lent),
+        Request::PowerLost => {
+            let after = host::power_lost(host);
+            let reset = chip::power_lost(chip);
+            changed(after, reset)
+        }
+        Request::Update => {
+            let updated = update::update(host, lent);
+            feeding::listed(updated, chip, lent)
+        }
     }
 }
 
 // A call that answers a number alone, and the chip after it.
-fn setting_step(changed: Changed, chip: Chip) -> Stepped
-    ensures { λ r. ⌜ r ≡ settingStep changed chip ⌝ }
+fn changed(changed: Changed, chip: Chip) -> Stepped
+    ensures { λ r. ⌜ ((lent : List ℕ) → leaving r lent ≡ changeStep changed chip lent) ⌝ }
 {
     let answer = changed.answer;
-    let state = changed.state;
+    let host = changed.host;
     let world = World {
-        state: state,
+        host: host,
         chip: chip,
     };
     Stepped {
@@ -122,22 +96,22 @@ fn setting_step(changed: Changed, chip: Chip) -> Stepped
 
 // Clear opens on a world. It is no call of the claim about whole lists.
 pub fn clear_opens(world: World, buffer: &mut [u8]) -> Stepped
-    ensures { λ r. ⌜ r ≡ clearOpensStep world (now (buffer .entry)) ⌝ }
-    ensures { λ _. ⌜ now (buffer .exit) ≡ clearOpensBuffer (world .state) (now (buffer .entry)) ⌝ }
+    ensures { λ r. ⌜ leaving r (now (buffer .exit)) ≡ clearOpensStep world (now (buffer .entry)) ⌝ }
 {
-    let state = world.state;
+    let host = world.host;
     let chip = world.chip;
-    feeding::clear_opens(state, chip, buffer)
+    let updated = update::clear_opens(host, buffer);
+    feeding::listed(updated, chip, buffer)
 }
 
 // Clear shorts likewise.
 pub fn clear_shorts(world: World, buffer: &mut [u8]) -> Stepped
-    ensures { λ r. ⌜ r ≡ clearShortsStep world (now (buffer .entry)) ⌝ }
-    ensures { λ _. ⌜ now (buffer .exit) ≡ clearShortsBuffer (world .state) (now (buffer .entry)) ⌝ }
+    ensures { λ r. ⌜ leaving r (now (buffer .exit)) ≡ clearShortsStep world (now (buffer .entry)) ⌝ }
 {
-    let state = world.state;
+    let host = world.host;
     let chip = world.chip;
-    feeding::clear_shorts(state, chip, buffer)
+    let updated = update::clear_shorts(host, buffer);
+    feeding::listed(updated, chip, buffer)
 }
 
 // The ledger of a newly opened member. A member above 4 is never opened, and gives the ledger of member 0.
@@ -147,9 +121,9 @@ pub fn opened_ledger(member: usize) -> Ledger
     ledgers::opened(member)
 }
 
-// The ledger after one more call, whatever that call was answered.
+// The ledger that is told of one more call, whatever that call was answered.
 pub fn enter(ledger: Ledger, request: Request, lent: &[u8]) -> Ledger
-    ensures { λ r. ⌜ r ≡ enteredOf ledger request (now (lent .entry)) ⌝ }
+    ensures { λ r. ⌜ r ≡ enteredOf ledger (toldOf request (now (lent .entry))) ⌝ }
 {
     let member = ledger.member;
     let bytes = ledger.bytes;
