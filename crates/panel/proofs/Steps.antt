@@ -8,10 +8,12 @@ use lib.ListN.{length}
 use lib.Seq.{length-take-le}
 use Rattle.history.specs.Step.{listIn}
 use Rattle.capi.specs.Capi.{Outcome, ListOutcome}
-use Rattle.capi.specs.Calls.{registerCall, lampCall, groupCall, switchCall, sceneCall, powerLostCall, updateCall, updateNeeded, resetCall, chipPowerLostCall, chipFeedCall}
-use Rattle.capi.specs.CallLaws.{update-inside, reset-inside}
-use Rattle.panel.specs.declared.Request.{Request}
-use Rattle.panel.specs.declared.Request.the-variants.{Register, Lamp, Group, Switch, Scene, Reset, PowerLost, Update}
+use Rattle.capi.specs.Calls.{settingCall, powerLostCall, updateCall, updateNeeded, resetCall, chipPowerLostCall, chipFeedCall}
+use Rattle.capi.specs.CallLaws.{send-inside}
+use Rattle.update.specs.Update.{updating, resetting}
+use Rattle.calls.specs.declared.Request.{Request}
+use Rattle.calls.specs.declared.Request.the-variants.{Set, Reset, PowerLost, Update}
+use Rattle.calls.specs.declared.Setting.{Setting}
 use Rattle.panel.specs.PanelStep.{Panel, panelOf, stepped, chipFed, panelStep}
 
 -- ---- feeding
@@ -37,57 +39,41 @@ LeavesList x answer bytes buffer n t = (answer ≡ x .answer) × ((bytes ≡ x .
 
 -- lp586x_update also leaves the length needed
 abbrev pub LeavesUpdate : List ℕ → List ℕ → ℕ → ℕ → ℕ → ℕ → List ℕ → List ℕ → ℕ → ℕ → ℕ → Type 0
-LeavesUpdate state lent n t needed answer bytes buffer k u size =
-    (answer ≡ updateCall state lent n t .answer)
-    × ((bytes ≡ updateCall state lent n t .bytes)
-    × ((buffer ≡ updateCall state lent n t .buffer) × ((k ≡ updateCall state lent n t .n) × ((u ≡ updateCall state lent n t .t) × (size ≡ updateNeeded state lent needed)))))
+LeavesUpdate host lent n t needed answer bytes buffer k u size =
+    (answer ≡ updateCall host lent n t .answer)
+    × ((bytes ≡ updateCall host lent n t .bytes)
+    × ((buffer ≡ updateCall host lent n t .buffer) × ((k ≡ updateCall host lent n t .n) × ((u ≡ updateCall host lent n t .t) × (size ≡ updateNeeded host lent needed)))))
 
 -- ---- room: the list of an answer of 0 stands in the buffer, whose length a call keeps
 
-module _ (state lent bytes buffer : List ℕ) (n t answer k u size : ℕ) (kept : size ≡ length lent) where
-  pub reset-room : LeavesList (resetCall state lent n t) answer bytes buffer k u → answer ≡ 0 → 4 + 2 * k + u ≤ size
-  reset-room h z = rw (kept, h .1 .1 .1 .0, h .1 .1 .1 .1) (reset-inside state lent n t (sym (h .0) ∙ z))
+module _ (host lent bytes buffer : List ℕ) (n t answer k u size : ℕ) (kept : size ≡ length lent) where
+  pub reset-room : LeavesList (resetCall host lent n t) answer bytes buffer k u → answer ≡ 0 → 4 + 2 * k + u ≤ size
+  reset-room h z = rw (kept, h .1 .1 .1 .0, h .1 .1 .1 .1) (send-inside resetting host lent n t refl (sym (h .0) ∙ z))
 
-  pub update-room : (needed new : ℕ) → LeavesUpdate state lent n t needed answer bytes buffer k u new → answer ≡ 0 → 4 + 2 * k + u ≤ size
-  update-room needed new h z = rw (kept, h .1 .1 .1 .0, h .1 .1 .1 .1 .0) (update-inside state lent n t (sym (h .0) ∙ z))
+  pub update-room : (needed new : ℕ) → LeavesUpdate host lent n t needed answer bytes buffer k u new → answer ≡ 0 → 4 + 2 * k + u ≤ size
+  update-room needed new h z = rw (kept, h .1 .1 .1 .0, h .1 .1 .1 .1 .0) (send-inside updating host lent n t refl (sym (h .0) ∙ z))
 
 -- ---- steps
 
 module _ (w : Panel) (request : Request) (lent : List ℕ) (n t needed : ℕ) where
   -- what is left is the step of the request
   abbrev pub Steps : ℕ → List ℕ → List ℕ → List ℕ → ℕ → ℕ → ℕ → Type 0
-  Steps answer state chip buffer k u size = stepped answer (panelOf state chip) buffer k u size ≡ panelStep w request lent n t needed
+  Steps answer host chip buffer k u size = stepped answer (panelOf host chip) buffer k u size ≡ panelStep w request lent n t needed
 
-  pub register-step : (a v answer : ℕ) (bytes : List ℕ) → request ≡ Register a v → Leaves (registerCall (w .state) a v) answer bytes →
+  pub setting-step : (q : Setting) (answer : ℕ) (bytes : List ℕ) → request ≡ Set q → Leaves (settingCall (w .host) q lent) answer bytes →
       Steps answer bytes (w .chip) lent n t needed
-  register-step a v answer bytes e h = rw (e, h .0, h .1) refl
+  setting-step q answer bytes e h = rw (e, h .0, h .1) refl
 
-  pub lamp-step : (l s v answer : ℕ) (bytes : List ℕ) → request ≡ Lamp l s v → Leaves (lampCall (w .state) l s v) answer bytes →
-      Steps answer bytes (w .chip) lent n t needed
-  lamp-step l s v answer bytes e h = rw (e, h .0, h .1) refl
-
-  pub group-step : (l s g answer : ℕ) (bytes : List ℕ) → request ≡ Group l s g → Leaves (groupCall (w .state) l s g) answer bytes →
-      Steps answer bytes (w .chip) lent n t needed
-  group-step l s g answer bytes e h = rw (e, h .0, h .1) refl
-
-  pub switch-step : (l s x answer : ℕ) (bytes : List ℕ) → request ≡ Switch l s x → Leaves (switchCall (w .state) l s x) answer bytes →
-      Steps answer bytes (w .chip) lent n t needed
-  switch-step l s x answer bytes e h = rw (e, h .0, h .1) refl
-
-  pub scene-step : (answer : ℕ) (bytes : List ℕ) → request ≡ Scene → Leaves (sceneCall (w .state) lent) answer bytes →
-      Steps answer bytes (w .chip) lent n t needed
-  scene-step answer bytes e h = rw (e, h .0, h .1) refl
-
-  pub power-lost-step : (answer : ℕ) (bytes chip : List ℕ) → request ≡ PowerLost → Leaves (powerLostCall (w .state)) answer bytes →
+  pub power-lost-step : (answer : ℕ) (bytes chip : List ℕ) → request ≡ PowerLost → Leaves (powerLostCall (w .host)) answer bytes →
       chip ≡ chipPowerLostCall (w .chip) .bytes → Steps answer bytes chip lent n t needed
   power-lost-step answer bytes chip e h k = rw (e, h .0, h .1, k) refl
 
-  pub reset-step : (answer k u : ℕ) (bytes chip buffer : List ℕ) → request ≡ Reset → LeavesList (resetCall (w .state) lent n t) answer bytes buffer k u →
+  pub reset-step : (answer k u : ℕ) (bytes chip buffer : List ℕ) → request ≡ Reset → LeavesList (resetCall (w .host) lent n t) answer bytes buffer k u →
       chip ≡ chipFed answer k u buffer (w .chip) → Steps answer bytes chip buffer k u needed
   reset-step answer k u bytes chip buffer e h f = rw (e, f, h .0, h .1 .0, h .1 .1 .0, h .1 .1 .1 .0, h .1 .1 .1 .1) refl
 
   pub update-step : (answer k u size : ℕ) (bytes chip buffer : List ℕ) → request ≡ Update →
-      LeavesUpdate (w .state) lent n t needed answer bytes buffer k u size → chip ≡ chipFed answer k u buffer (w .chip) →
+      LeavesUpdate (w .host) lent n t needed answer bytes buffer k u size → chip ≡ chipFed answer k u buffer (w .chip) →
       Steps answer bytes chip buffer k u size
   update-step answer k u size bytes chip buffer e h f =
       rw (e, f, h .0, h .1 .0, h .1 .1 .0, h .1 .1 .1 .0, h .1 .1 .1 .1 .0, h .1 .1 .1 .1 .1) refl

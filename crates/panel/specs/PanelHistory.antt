@@ -4,18 +4,17 @@
 -- Assumes nothing.
 use mathlib.Core.Path.{_≡_}
 use mathlib.Core.Bool.{true}
-use mathlib.Core.List.{List, [], _∷_, _++_, map}
+use mathlib.Core.List.{List, [], _∷_, _++_}
 use Prim.Native.Nat.{ℕ, _≤_}
 use lib.ListN.{drop}
 use Rattle.burst.specs.Burst.{nOf, tOf, transactions}
-use Rattle.history.specs.declared.Request as values
-use Rattle.history.specs.Ledger.{wantsOn}
+use Rattle.calls.specs.declared.Request.{Request}
+use Rattle.calls.specs.declared.Request.the-variants.{Update}
+use Rattle.history.specs.Ledger.{Told, toldOf, ledger, wantsOn}
 use Rattle.history.specs.Step.{listIn}
-use Rattle.history.specs.History.{Call, ledger, SameWritable, AllWriteWritable}
-use Rattle.capi.specs.Capi.{ListOutcome}
+use Rattle.history.specs.History.{Call, SameWritable, AllAllowed}
+use Rattle.capi.specs.Capi.{headerIn, ListOutcome}
 use Rattle.capi.specs.Calls.{openCall, updateCall, chipAtResetCall, chipFeedCall}
-use Rattle.panel.specs.declared.Request.{Request}
-use Rattle.panel.specs.declared.Request.the-variants.{Register, Lamp, Group, Switch, Scene, Reset, PowerLost, Update}
 use Rattle.panel.specs.PanelStep.{Panel, panelOf, panelStep}
 
 -- ---- Lists of calls
@@ -32,11 +31,11 @@ pub record PanelCall : Type 0 where
 -- "The first gets the record of an accepted Open," and a chip of the same member, bus and pins at reset values: what lp586x_open and
 -- lp586x_chip_at_reset leave in the two pieces of memory
 abbrev pub panelStart : ℕ → ℕ → ℕ → Panel → Panel
-panelStart m b p memory = panelOf (openCall (memory .state) m b p .bytes) (chipAtResetCall (memory .chip) m b p .bytes)
+panelStart m b p memory = panelOf (openCall (memory .host) m b p .bytes) (chipAtResetCall (memory .chip) m b p .bytes)
 
 -- accepted: both answer 0
 pub record PanelOpened (m b p : ℕ) (memory : Panel) : Type 0 where
-  pub record-opened : openCall (memory .state) m b p .answer ≡ 0
+  pub record-opened : openCall (memory .host) m b p .answer ≡ 0
   pub chip-opened : chipAtResetCall (memory .chip) m b p .answer ≡ 0
 
 -- "each next one the record the last one returned, refused or not; nobody else writes it."
@@ -48,23 +47,22 @@ panelRun w (c ∷ cs) = panelRun (panelStep w (c .request) (c .lent) (c .n) (c .
 abbrev pub panelAfter : ℕ → ℕ → ℕ → Panel → List PanelCall → Panel
 panelAfter m b p memory calls = panelRun (panelStart m b p memory) calls
 
--- the same call on a record by value, by the same numbers
-abbrev pub requestOf : Request → values.Request
-requestOf (Register a v) = values.the-variants.Register a v
-requestOf (Lamp l s v) = values.the-variants.Lamp l s v
-requestOf (Group l s g) = values.the-variants.Group l s g
-requestOf (Switch l s x) = values.the-variants.Switch l s x
-requestOf Scene = values.the-variants.Scene
-requestOf Reset = values.the-variants.Reset
-requestOf PowerLost = values.the-variants.PowerLost
-requestOf Update = values.the-variants.Update
-
+-- the same call on a record by value
 abbrev pub callOf : PanelCall → Call
-callOf c = record { request = requestOf (c .request); lent = c .lent }
+callOf c = record { request = c .request; lent = c .lent }
 
--- the ledger "is fed the calls in order, with all their arguments but the record, and never an answer."
-abbrev pub panelLedger : ℕ → List PanelCall → List ℕ
-panelLedger m calls = ledger m (map callOf calls)
+-- What the ledger is told of a call on the panel w: "all their arguments but the record, and never an answer."
+abbrev pub panelTell : Panel → PanelCall → Told
+panelTell w c = toldOf (c .request) (c .lent)
+
+-- "the calls in order": of each next one on the panel that the last one left
+abbrev pub panelTold : Panel → List PanelCall → List Told
+panelTold w [] = []
+panelTold w (c ∷ cs) = panelTell w c ∷ panelTold (panelStep w (c .request) (c .lent) (c .n) (c .t) (c .needed) .panel) cs
+
+-- the ledger's bytes after these calls
+abbrev pub panelLedger : ℕ → ℕ → ℕ → Panel → List PanelCall → List ℕ
+panelLedger m b p memory calls = ledger m (panelTold (panelStart m b p memory) calls)
 
 -- ---- Addresses and rivals
 
@@ -73,11 +71,12 @@ abbrev pub registersIn : List ℕ → List ℕ
 registersIn bytes = drop 3 bytes
 
 -- "A rival is any other list that Feed takes, .. It is fed to the chip as that stood before the last Update, and counts if the
--- writable bytes are then as after that Update.": lp586x_chip_feed takes l with 0 on the chip's bytes c, and leaves the writable bytes of d.
-pub record PanelRival (m b p : ℕ) (c d l : List ℕ) : Type 0 where
-  pub taken : chipFeedCall c l .answer ≡ 0
-  pub writes : AllWriteWritable m b p (transactions l)
-  pub leaves : SameWritable m (registersIn (chipFeedCall c l .bytes)) (registersIn d)
+-- writable bytes are then as after that Update.": lp586x_chip_feed takes l with 0 on the chip's bytes as they stood `before`, l keeps to what
+-- the record of then may write, and it leaves the writable bytes of the chip `after`.
+pub record PanelRival (m b p : ℕ) (before after : Panel) (l : List ℕ) : Type 0 where
+  pub taken : chipFeedCall (before .chip) l .answer ≡ 0
+  pub writes : AllAllowed b p (headerIn (before .host)) (transactions l)
+  pub leaves : SameWritable m (registersIn (chipFeedCall (before .chip) l .bytes)) (registersIn (after .chip))
 
 -- ---- The claim
 
@@ -88,35 +87,35 @@ listOf u = listIn (u .n) (u .t) (u .buffer)
 module _ (m b p : ℕ) (memory : Panel) where
   -- what an lp586x_update after these calls answers and leaves
   abbrev pub updateAfter : List PanelCall → List ℕ → ℕ → ℕ → ListOutcome
-  updateAfter before buffer n t = updateCall (panelAfter m b p memory before .state) buffer n t
+  updateAfter before buffer n t = updateCall (panelAfter m b p memory before .host) buffer n t
 
-  -- The calls are those `before`, an Update with this buffer that answers 0, and those `after` it.
-  pub record PanelUpdates (calls before after : List PanelCall) (buffer : List ℕ) (n t needed : ℕ) : Type 0 where
-    pub calls-are : calls ≡ before ++ (record { request = Update; lent = buffer; n = n; t = t; needed = needed } ∷ after)
+  -- The calls are those `before`, an Update with this buffer that answers 0, and those `behind` it.
+  pub record PanelUpdates (calls before behind : List PanelCall) (buffer : List ℕ) (n t needed : ℕ) : Type 0 where
+    pub calls-are : calls ≡ before ++ (record { request = Update; lent = buffer; n = n; t = t; needed = needed } ∷ behind)
     pub answers : updateAfter before buffer n t .answer ≡ 0
 
-  -- What is owed after `calls`, the last of which is an Update that answered 0 and left u: `before` are those before it.
-  pub record PanelLastUpdate (calls before : List PanelCall) (u : ListOutcome) : Type 0 where
+  -- What is owed behind an Update that answered 0 and left u: `before` and `after` are the panels before and after it, and s is the
+  -- ledger.
+  pub record PanelOwed (s : List ℕ) (before after : Panel) (u : ListOutcome) : Type 0 where
     -- demand 3: "with chip enable wanted on, the chip holds in every writable register exactly what the ledger of accepted settings says"
-    pub values : wantsOn (panelLedger m calls) ≡ true → SameWritable m (registersIn (panelAfter m b p memory calls .chip)) (panelLedger m calls)
+    pub values : wantsOn s ≡ true → SameWritable m (registersIn (after .chip)) s
     -- demand 3: "every rival list .. has at least as many bus bytes as the update reports."
-    pub fewest : (l : List ℕ) → PanelRival m b p (panelAfter m b p memory before .chip) (panelAfter m b p memory calls .chip) l → u .t ≤ tOf l
+    pub fewest : (l : List ℕ) → PanelRival m b p before after l → u .t ≤ tOf l
     -- "With equal bytes this takes the fewer writes."
-    pub fewest-writes : (l : List ℕ) → PanelRival m b p (panelAfter m b p memory before .chip) (panelAfter m b p memory calls .chip) l → tOf l ≡ u .t →
-        u .n ≤ nOf l
+    pub fewest-writes : (l : List ℕ) → PanelRival m b p before after l → tOf l ≡ u .t → u .n ≤ nOf l
     -- Its own list, of n transactions and t bus bytes, does what the rivals do: the least is reached.
-    pub own : PanelRival m b p (panelAfter m b p memory before .chip) (panelAfter m b p memory calls .chip) (listOf u)
+    pub own : PanelRival m b p before after (listOf u)
     pub own-count : nOf (listOf u) ≡ u .n
     pub own-bytes : tOf (listOf u) ≡ u .t
 
   -- "Demand 3 is a single claim about the whole list, not one for each call."
   pub record PanelDemand3 (calls : List PanelCall) : Type 0 where
     -- demand 3: "no update names an address outside the member's writable ones": no accepted Update, wherever it stands
-    pub names : (before after : List PanelCall) (buffer : List ℕ) (n t needed : ℕ) → PanelUpdates calls before after buffer n t needed →
-        AllWriteWritable m b p (transactions (listOf (updateAfter before buffer n t)))
+    pub names : (before behind : List PanelCall) (buffer : List ℕ) (n t needed : ℕ) → PanelUpdates calls before behind buffer n t needed →
+        AllAllowed b p (headerIn (panelAfter m b p memory before .host)) (transactions (listOf (updateAfter before buffer n t)))
     -- demand 3: "and if the last call is an accepted update"
     pub last : (before : List PanelCall) (buffer : List ℕ) (n t needed : ℕ) → PanelUpdates calls before [] buffer n t needed →
-        PanelLastUpdate calls before (updateAfter before buffer n t)
+        PanelOwed (panelLedger m b p memory calls) (panelAfter m b p memory before) (panelAfter m b p memory calls) (updateAfter before buffer n t)
 
 -- for every list of calls after every lp586x_open and lp586x_chip_at_reset that answer 0
 abbrev pub PanelWholeLists : Type 0

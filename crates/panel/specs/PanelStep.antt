@@ -1,5 +1,5 @@
 -- One call of include/lp586x.h on what a C program keeps, by the promises of its functions (capi, specs/Calls.antt): document 01,
--- "The ledger and whole lists". A panel is the bytes of a record, `state`, and those of its chip; `lent` is the bytes of a scene, or
+-- "The ledger and whole lists". A panel is the bytes of a host's record, `host`, and those of its chip; `lent` is the bytes of a scene, or
 -- the buffer of a call that writes a list; n, t and needed are what stands where a call stores them. To be read beside
 -- specs/Step.antt of the crate history.
 -- Assumes nothing.
@@ -9,19 +9,19 @@ use Prim.Native.Nat.{ℕ}
 use lib.Dec.{eqb}
 use Rattle.history.specs.Step.{listIn}
 use Rattle.capi.specs.Capi.{Outcome, ListOutcome}
-use Rattle.capi.specs.Calls.{registerCall, lampCall, groupCall, switchCall, sceneCall, powerLostCall, updateCall, updateNeeded, resetCall, chipPowerLostCall, chipFeedCall}
-use Rattle.panel.specs.declared.Request.{Request}
-use Rattle.panel.specs.declared.Request.the-variants.{Register, Lamp, Group, Switch, Scene, Reset, PowerLost, Update}
+use Rattle.calls.specs.declared.Request.{Request}
+use Rattle.calls.specs.declared.Request.the-variants.{Set, Reset, PowerLost, Update}
+use Rattle.capi.specs.Calls.{settingCall, powerLostCall, updateCall, updateNeeded, resetCall, chipPowerLostCall, chipFeedCall}
 
 -- ---- What a C program keeps
 
 -- the bytes of a record and those of its chip
 pub record Panel : Type 0 where
-  pub state : List ℕ
+  pub host : List ℕ
   pub chip : List ℕ
 
 abbrev pub panelOf : List ℕ → List ℕ → Panel
-panelOf state chip = record { state = state; chip = chip }
+panelOf host chip = record { host = host; chip = chip }
 
 -- what a call answers, and all that it leaves
 pub record PanelStepped : Type 0 where
@@ -53,13 +53,9 @@ abbrev pub panelList : ListOutcome → List ℕ → ℕ → PanelStepped
 panelList x chip needed =
     stepped (x .answer) (panelOf (x .bytes) (chipFed (x .answer) (x .n) (x .t) (x .buffer) chip)) (x .buffer) (x .n) (x .t) needed
 
--- "at Power lost the chip loses power."
+-- A setting is one of five functions, each of which promises this definition of its Setting. "at Power lost the chip loses power."
 abbrev pub panelStep : Panel → Request → List ℕ → ℕ → ℕ → ℕ → PanelStepped
-panelStep w (Register a v) lent n t needed = panelSetting (registerCall (w .state) a v) (w .chip) lent n t needed
-panelStep w (Lamp l s v) lent n t needed = panelSetting (lampCall (w .state) l s v) (w .chip) lent n t needed
-panelStep w (Group l s g) lent n t needed = panelSetting (groupCall (w .state) l s g) (w .chip) lent n t needed
-panelStep w (Switch l s x) lent n t needed = panelSetting (switchCall (w .state) l s x) (w .chip) lent n t needed
-panelStep w Scene lent n t needed = panelSetting (sceneCall (w .state) lent) (w .chip) lent n t needed
-panelStep w Reset lent n t needed = panelList (resetCall (w .state) lent n t) (w .chip) needed
-panelStep w PowerLost lent n t needed = panelSetting (powerLostCall (w .state)) (chipPowerLostCall (w .chip) .bytes) lent n t needed
-panelStep w Update lent n t needed = panelList (updateCall (w .state) lent n t) (w .chip) (updateNeeded (w .state) lent needed)
+panelStep w (Set q) lent n t needed = panelSetting (settingCall (w .host) q lent) (w .chip) lent n t needed
+panelStep w Reset lent n t needed = panelList (resetCall (w .host) lent n t) (w .chip) needed
+panelStep w PowerLost lent n t needed = panelSetting (powerLostCall (w .host)) (chipPowerLostCall (w .chip) .bytes) lent n t needed
+panelStep w Update lent n t needed = panelList (updateCall (w .host) lent n t) (w .chip) (updateNeeded (w .host) lent needed)

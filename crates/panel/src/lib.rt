@@ -7,22 +7,12 @@ ghost use mathlib.Core.Path.{_≡_};
 ghost use Prim.Native.Nat.{_+_, _*_, _≤_};
 ghost use lib.ListN.{length};
 ghost use Rattle.panel.specs.PanelStep.{panelOf, stepped, panelStep, chipFed};
+use calls::Request;
 
-// A call with its numbers, all of them uint32_t. The bytes of a Scene and the buffer of a Reset or an Update are lent beside it.
-pub enum Request {
-    Register { address: u32, value: u32 },
-    Lamp { line: u32, sink: u32, level: u32 },
-    Group { line: u32, sink: u32, group: u32 },
-    Switch { line: u32, sink: u32, state: u32 },
-    Scene,
-    Reset,
-    PowerLost,
-    Update,
-}
-
-// One call, as the program makes it. The chip loses its power whatever the record answers.
+// One call, as the program makes it: a setting is one of the five functions, which hand it to `capi::set`. The chip loses its power
+// whatever the record answers.
 pub fn call(
-    state: &mut [u8],
+    host: &mut [u8],
     chip: &mut [u8],
     request: Request,
     lent: &mut [u8],
@@ -30,29 +20,21 @@ pub fn call(
     t: &mut u32,
     needed: &mut u32,
 ) -> u32
-    ensures { λ r. ⌜ stepped r (panelOf (now (state .exit)) (now (chip .exit))) (now (lent .exit)) (now (n .exit)) (now (t .exit)) (now (needed .exit)) ≡ panelStep (panelOf (now (state .entry)) (now (chip .entry))) request (now (lent .entry)) (now (n .entry)) (now (t .entry)) (now (needed .entry)) ⌝ }
+    ensures { λ r. ⌜ stepped r (panelOf (now (host .exit)) (now (chip .exit))) (now (lent .exit)) (now (n .exit)) (now (t .exit)) (now (needed .exit)) ≡ panelStep (panelOf (now (host .entry)) (now (chip .entry))) request (now (lent .entry)) (now (n .entry)) (now (t .entry)) (now (needed .entry)) ⌝ }
 {
     match request {
-        Request::Register { address, value } => capi::lp586x_register(state, address, value),
-        Request::Lamp { line, sink, level } => capi::lp586x_lamp(state, line, sink, level),
-        Request::Group { line, sink, group } => capi::lp586x_group(state, line, sink, group),
-        Request::Switch {
-            line,
-            sink,
-            state: on,
-        } => capi::lp586x_switch(state, line, sink, on),
-        Request::Scene => capi::lp586x_scene(state, lent),
+        Request::Set(setting) => capi::set(host, setting, lent),
         Request::Reset => {
-            let answer = capi::lp586x_reset(state, lent, n, t);
+            let answer = capi::lp586x_reset(host, lent, n, t);
             feed(answer, chip, lent, *n, *t);
             answer
         }
         Request::PowerLost => {
             capi::lp586x_chip_power_lost(chip);
-            capi::lp586x_power_lost(state)
+            capi::lp586x_power_lost(host)
         }
         Request::Update => {
-            let answer = capi::lp586x_update(state, lent, n, t, needed);
+            let answer = capi::lp586x_update(host, lent, n, t, needed);
             feed(answer, chip, lent, *n, *t);
             answer
         }
