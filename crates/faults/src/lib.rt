@@ -6,8 +6,10 @@
 mod answers;
 mod readings;
 
+ghost use mathlib.Core.Bool.{cond};
 ghost use mathlib.Core.Path.{_≡_};
 ghost use lib.ListN.{getD};
+ghost use Rattle.map.specs.Refusals.{numbersOf};
 ghost use Rattle.faults.specs.Faults.{answerNumbers, faultsAnswer, faultsResult};
 use map::Refusal;
 
@@ -30,6 +32,26 @@ pub fn answer_number(answer: Answer) -> u8
             shorts_agree: _,
         } => 0,
         Answer::Refused(refusal) => map::refusal_number(refusal),
+    }
+}
+
+// 1 where 064h agrees.
+fn digit(agrees: bool) -> usize
+    ensures { λ r. ⌜ r ≡ cond agrees 1 0 ⌝ }
+{
+    if agrees { 1 } else { 0 }
+}
+
+// 0 and the two digits, or the refusal's number.
+pub fn answer_numbers(answer: Answer) -> map::Numbers
+    ensures { λ r. ⌜ r ≡ numbersOf (answerNumbers answer) ⌝ }
+{
+    match answer {
+        Answer::Read {
+            opens_agree,
+            shorts_agree,
+        } => map::with_values(0, digit(opens_agree), digit(shorts_agree)),
+        Answer::Refused(refusal) => map::number_alone(map::refusal_number(refusal) as usize),
     }
 }
 

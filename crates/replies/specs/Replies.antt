@@ -2,11 +2,10 @@
 -- Assumes nothing.
 use mathlib.Core.List.{List, [], _∷_, _++_}
 use Prim.Native.Nat.{ℕ}
-use Rattle.faults.specs.Faults.{answerNumbers}
-use Rattle.history.specs.Step.{callNumbers}
+use Rattle.map.specs.Refusals.{numbersIn}
 use Rattle.text.specs.Text.{addressText, decimalText, eachText, bytesText}
 use Rattle.replies.specs.declared.Reply.{Reply}
-use Rattle.replies.specs.declared.Reply.the-variants.{Bad, Answered, Lent, Read, Bytes, Same, Differs}
+use Rattle.replies.specs.declared.Reply.the-variants.{Bad, Numbers, Lent, Bytes, Same, Differs}
 
 -- a value of an answer stands behind a space
 unfoldable pub valueText : ℕ → List ℕ
@@ -34,11 +33,10 @@ unfoldable pub replyText : Reply → List ℕ → List ℕ
 -- `?`
 replyText Bad b = 0x3F ∷ []
 -- "`0` or the refusal number"
-replyText (Answered answer) b = numbersText (callNumbers answer)
--- "`0 n t BUFFER`, or `10 NEEDED BUFFER`, or `14 BUFFER`"; "`10 BUFFER`" of a Reset or a Clear
-replyText (Lent answer) b = numbersText (callNumbers answer) ++ lentText b
+replyText (Numbers n) b = numbersText (numbersIn n)
+-- "`0 n t BUFFER`, or `10 NEEDED BUFFER`, or `14 BUFFER`"; "`10 BUFFER`" of a Reset or a Clear;
 -- "`0 O S BUFFER` (O, S: 1 if 064h bit 1, bit 0 agrees, else 0), or `N BUFFER`"
-replyText (Read answer) b = numbersText (answerNumbers answer) ++ lentText b
+replyText (Lent n) b = numbersText (numbersIn n) ++ lentText b
 -- "1,816 hex digits"
 replyText Bytes b = bytesText b
 -- `same`

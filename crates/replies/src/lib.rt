@@ -2,30 +2,25 @@
 // buffer; bytes alone; or a word.
 ghost use mathlib.Core.Path.{_≡_};
 ghost use mathlib.Core.Bool.{cond};
-ghost use mathlib.Core.List.{_++_};
-ghost use Rattle.update.specs.Update.{listNumbers};
-ghost use Rattle.faults.specs.Faults.{answerNumbers};
-ghost use Rattle.history.specs.Step.{callNumbers};
+ghost use mathlib.Core.List.{[], _++_};
+ghost use Rattle.map.specs.Refusals.{numbersIn};
 ghost use Rattle.replies.specs.Replies.{valueText, numbersText, lentText, differsWord, replyText, replyLine};
 ghost use Rattle.text.specs.Text.{Puts, addressText};
-use history::CallAnswer;
+use map::Numbers;
 use text::put;
 use text::put_address;
 use text::put_bytes;
 use text::put_decimal;
 use text::put_text;
-use update::ListAnswer;
 
 // What the line of output says. BUFFER is all bytes of the buffer that was lent.
 pub enum Reply {
     // `?`
     Bad,
-    // the numbers of the answer: `0`, or the refusal's number
-    Answered(CallAnswer),
-    // they and the buffer: `0 n t BUFFER`, `10 NEEDED BUFFER`, `N BUFFER`
-    Lent(CallAnswer),
-    // `0 O S BUFFER`, `N BUFFER`
-    Read(faults::Answer),
+    // the numbers of an answer: `0`, `14`, `0 V W`
+    Numbers(Numbers),
+    // they and the buffer: `0 n t BUFFER`, `10 NEEDED BUFFER`, `0 O S BUFFER`, `N BUFFER`
+    Lent(Numbers),
     // the bytes alone
     Bytes,
     // `same`
@@ -34,62 +29,30 @@ pub enum Reply {
     Differs(usize),
 }
 
-// ` V`
-fn put_value(text: &mut [u8], at: usize, value: usize) -> usize
-    ensures { λ r. ⌜ Puts (now (text .entry)) at (valueText value) (now (text .exit)) r ⌝ }
+// ` V`, where there is one
+fn put_value(text: &mut [u8], at: usize, given: bool, value: usize) -> usize
+    ensures { λ r. ⌜ Puts (now (text .entry)) at (cond given (valueText value) []) (now (text .exit)) r ⌝ }
 {
-    let next = put(text, at, b' ');
-    put_decimal(text, next, value)
-}
-
-// ` V W`
-fn put_values(text: &mut [u8], at: usize, first: usize, second: usize) -> usize
-    ensures { λ r. ⌜ Puts (now (text .entry)) at (valueText first ++ valueText second) (now (text .exit)) r ⌝ }
-{
-    let next = put_value(text, at, first);
-    put_value(text, next, second)
-}
-
-// `0 n t`, `10 NEEDED`, or the refusal's number
-fn put_list_answer(text: &mut [u8], at: usize, answer: ListAnswer) -> usize
-    ensures { λ r. ⌜ Puts (now (text .entry)) at (numbersText (listNumbers answer)) (now (text .exit)) r ⌝ }
-{
-    let next = put_decimal(text, at, update::list_number(answer) as usize);
-    match answer {
-        ListAnswer::Listed { n, t } => put_values(text, next, n, t),
-        ListAnswer::Short { needed } => put_value(text, next, needed),
-        ListAnswer::Refused(_) => next,
+    if given {
+        let next = put(text, at, b' ');
+        put_decimal(text, next, value)
+    } else {
+        at
     }
 }
 
-fn put_answer(text: &mut [u8], at: usize, answer: CallAnswer) -> usize
-    ensures { λ r. ⌜ Puts (now (text .entry)) at (numbersText (callNumbers answer)) (now (text .exit)) r ⌝ }
+// `N`, `N V`, `N V W` ..
+fn put_numbers(text: &mut [u8], at: usize, numbers: Numbers) -> usize
+    ensures { λ r. ⌜ Puts (now (text .entry)) at (numbersText (numbersIn numbers)) (now (text .exit)) r ⌝ }
 {
-    match answer {
-        CallAnswer::Setting(answer) => put_decimal(text, at, map::answer_number(answer) as usize),
-        CallAnswer::List(answer) => put_list_answer(text, at, answer),
+    if numbers.count == 0 {
+        return at;
     }
-}
-
-// 1 where 064h agrees.
-fn digit(agrees: bool) -> usize
-    ensures { λ r. ⌜ r ≡ cond agrees 1 0 ⌝ }
-{
-    if agrees { 1 } else { 0 }
-}
-
-// `0 O S`, or the refusal's number
-fn put_faults_answer(text: &mut [u8], at: usize, answer: faults::Answer) -> usize
-    ensures { λ r. ⌜ Puts (now (text .entry)) at (numbersText (answerNumbers answer)) (now (text .exit)) r ⌝ }
-{
-    let next = put_decimal(text, at, faults::answer_number(answer) as usize);
-    match answer {
-        faults::Answer::Read {
-            opens_agree,
-            shorts_agree,
-        } => put_values(text, next, digit(opens_agree), digit(shorts_agree)),
-        faults::Answer::Refused(_) => next,
-    }
+    let next = put_decimal(text, at, numbers.number);
+    let next = put_value(text, next, 1 < numbers.count, numbers.first);
+    let next = put_value(text, next, 2 < numbers.count, numbers.second);
+    let next = put_value(text, next, 3 < numbers.count, numbers.third);
+    put_value(text, next, 4 < numbers.count, numbers.fourth)
 }
 
 // ` BUFFER`
@@ -113,13 +76,9 @@ fn put_reply(text: &mut [u8], at: usize, reply: Reply, bytes: &[u8]) -> usize
 {
     match reply {
         Reply::Bad => put(text, at, b'?'),
-        Reply::Answered(answer) => put_answer(text, at, answer),
-        Reply::Lent(answer) => {
-            let next = put_answer(text, at, answer);
-            put_lent(text, next, bytes)
-        }
-        Reply::Read(answer) => {
-            let next = put_faults_answer(text, at, answer);
+        Reply::Numbers(numbers) => put_numbers(text, at, numbers),
+        Reply::Lent(numbers) => {
+            let next = put_numbers(text, at, numbers);
             put_lent(text, next, bytes)
         }
         Reply::Bytes => put_bytes(text, at, bytes),
