@@ -4,17 +4,15 @@ use mathlib.Core.Path.{_≡_, refl, sym, ap, _∙_}
 use mathlib.Core.Bool.{Bool, true, false, cond, _&&_}
 use mathlib.Core.List.{List, [], _∷_}
 use Prim.Native.Nat.{ℕ, zero, suc, _+_, _-_, _*_, _/_, _%_, _≤_, _<_}
-use native.Mathlib.Nat.{mul-le-mul-right, add-suc, add-zero, suc-inj, not-suc-le-zero, suc-ne-zero}
+use native.Mathlib.Nat.{mul-le-mul-right, not-suc-le-zero}
 use native.Mathlib.Numerals.{add-one}
 use native.Mathlib.Omega.{arith}
 use borrow.Author.Tests.{lt-ltb, le-ltb, le-leb, lt-leb, eq-eqb, ne-eqb}
 use lib.Dec.{ltb, leb, eqb}
 use lib.ListN.{length, getD, take, drop, length-drop, drop-of-length-le}
 use lib.Seq.{drop-cons, drop-drop, drop-nil, take-nil, length-take-le}
-use Rattle.script.specs.declared.numbers.Number.{Number}
 use Rattle.script.specs.declared.numbers.Number.the-variants.{Value, Bad}
-use Rattle.script.specs.declared.numbers.Byte.the-variants as bytes
-use Rattle.script.specs.Numbers.{digitOf, allDigits, valueFrom, isNumber, numberOf, atMost, byteAtMost}
+use Rattle.script.specs.Numbers.{digitOf, allDigits, valueFrom, isNumeral, numeralOf}
 use Rattle.script.specs.Bytes.{isPairs, isBytes, pairOf, bytesOf}
 use Rattle.text.specs.Text.{Puts}
 use Rattle.text.specs.TextLaws.{after-inside, puts-length, Putting, putting-none, putting-more, putting-all}
@@ -73,7 +71,7 @@ word-more l from to (suc n) k e h w =
     let one : suc n - 1 ≡ n = omega arith in
     rw (place, one) (ap (λ (x : List ℕ). wordAt x n) (sym (drop-drop (suc (lengthTo 0x20 (drop from l))) from l)) ∙ w)
 
-word-empty : (n : ℕ) → wordAt [] n ≡ []
+pub word-empty : (n : ℕ) → wordAt [] n ≡ []
 unfolding wordAt behind firstWord
 word-empty zero = take-nil (lengthTo 0x20 [])
 word-empty (suc n) = ap (λ (x : List ℕ). wordAt x n) (drop-nil (suc (lengthTo 0x20 []))) ∙ word-empty n
@@ -141,24 +139,24 @@ unfolding allDigits
 digits-all base w i h a = sym (rw (drop-of-length-le w h) refl) ∙ a
 
 -- what a loop has of a number: the digits so far are digits and say v
-pub record Reads (base : ℕ) (w : List ℕ) (i v : ℕ) : Type 0 where
+pub record Reads (base most : ℕ) (w : List ℕ) (i v : ℕ) : Type 0 where
   pub inside : i ≤ length w
   pub some : 0 < length w
-  pub small : v ≤ 4294967295
+  pub small : v ≤ most
   pub digits : allDigits base (drop i w) ≡ allDigits base w
   pub value : valueFrom base v (drop i w) ≡ valueFrom base 0 w
 
-pub reads-none : (base : ℕ) (w : List ℕ) → 0 < length w → Reads base w 0 0
-reads-none base w h = record { inside = omega arith; some = h; small = omega arith; digits = refl; value = refl }
+pub reads-none : (base most : ℕ) (w : List ℕ) → 0 < length w → Reads base most w 0 0
+reads-none base most w h = record { inside = omega arith; some = h; small = omega arith; digits = refl; value = refl }
 
 value-next : (base : ℕ) (w : List ℕ) (i v d : ℕ) → i < length w → d ≡ digitOf (getD w i 0) →
     valueFrom base v (drop i w) ≡ valueFrom base (base * v + d) (drop (i + 1) w)
 unfolding valueFrom
 value-next base w i v d h e = rw (next-left w i h, valueFrom, e) refl
 
-pub reads-more : (base : ℕ) (w : List ℕ) (i v d : ℕ) → i < length w → d ≡ digitOf (getD w i 0) → d < base → base * v + d ≤ 4294967295 →
-    Reads base w i v → Reads base w (i + 1) (base * v + d)
-reads-more base w i v d h e l m r = record {
+pub reads-more : (base most : ℕ) (w : List ℕ) (i v d : ℕ) → i < length w → d ≡ digitOf (getD w i 0) → d < base → base * v + d ≤ most →
+    Reads base most w i v → Reads base most w (i + 1) (base * v + d)
+reads-more base most w i v d h e l m r = record {
   inside = omega arith;
   some = r .some;
   small = m;
@@ -175,63 +173,40 @@ value-least base h (b ∷ w) v =
     let once : 1 * v ≤ base * v = mul-le-mul-right v h in
     omega (arith, rest, once)
 
-pub reads-empty : (base : ℕ) (w : List ℕ) → length w ≡ 0 → Bad ≡ numberOf base w
-unfolding numberOf isNumber
-reads-empty base w h =
+pub reads-empty : (base most : ℕ) (w : List ℕ) → length w ≡ 0 → Bad ≡ numeralOf base most w
+unfolding numeralOf isNumeral
+reads-empty base most w h =
     let none : ltb 0 (length w) ≡ false = le-ltb 0 (length w) (omega arith) in
     rw none refl
 
-pub reads-wrong : (base : ℕ) (w : List ℕ) (i v d : ℕ) → i < length w → d ≡ digitOf (getD w i 0) → base ≤ d → Reads base w i v → Bad ≡ numberOf base w
-unfolding numberOf isNumber
-reads-wrong base w i v d h e l r = rw (lt-ltb _ _ (r .some), ← digits-wrong base w i d h e l (r .digits)) refl
+pub reads-wrong : (base most : ℕ) (w : List ℕ) (i v d : ℕ) → i < length w → d ≡ digitOf (getD w i 0) → base ≤ d → Reads base most w i v →
+    Bad ≡ numeralOf base most w
+unfolding numeralOf isNumeral
+reads-wrong base most w i v d h e l r = rw (lt-ltb _ _ (r .some), ← digits-wrong base w i d h e l (r .digits)) refl
 
-pub reads-large : (base : ℕ) (w : List ℕ) (i v d : ℕ) → 1 ≤ base → i < length w → d ≡ digitOf (getD w i 0) → d < base → 4294967295 < base * v + d →
-    Reads base w i v → Bad ≡ numberOf base w
-unfolding numberOf isNumber
-reads-large base w i v d b h e l m r =
+pub reads-large : (base most : ℕ) (w : List ℕ) (i v d : ℕ) → 1 ≤ base → i < length w → d ≡ digitOf (getD w i 0) → d < base → most < base * v + d →
+    Reads base most w i v → Bad ≡ numeralOf base most w
+unfolding numeralOf isNumeral
+reads-large base most w i v d b h e l m r =
     let least = value-least base b (drop (i + 1) w) (base * v + d) in
-    let above : 4294967295 < valueFrom base 0 w = omega (arith, least, value-next base w i v d h e, r .value) in
+    let above : most < valueFrom base 0 w = omega (arith, least, value-next base w i v d h e, r .value) in
     rw (lt-ltb _ _ (r .some), lt-leb _ _ above) (never (allDigits base w))
   where
     never : (t : Bool) → Bad ≡ cond (t && false) (Value (valueFrom base 0 w)) Bad
     never true = refl
     never false = refl
 
-pub reads-all : (base : ℕ) (w : List ℕ) (i v : ℕ) → length w ≤ i → Reads base w i v → Value v ≡ numberOf base w
-unfolding numberOf isNumber valueFrom
-reads-all base w i v h r =
+pub reads-all : (base most : ℕ) (w : List ℕ) (i v : ℕ) → length w ≤ i → Reads base most w i v → Value v ≡ numeralOf base most w
+unfolding numeralOf isNumeral valueFrom
+reads-all base most w i v h r =
     let same : v ≡ valueFrom base 0 w = sym (rw (drop-of-length-le w h) refl) ∙ r .value in
-    let small : leb (valueFrom base 0 w) 4294967295 ≡ true = le-leb (valueFrom base 0 w) 4294967295 (omega (arith, r .small)) in
+    let small : leb (valueFrom base 0 w) most ≡ true = le-leb (valueFrom base 0 w) most (omega (arith, r .small)) in
     rw (lt-ltb _ _ (r .some), ← digits-all base w i h (r .digits), small) (ap Value same)
 
-pub product-small : (base v : ℕ) → base ≤ 16 → v ≤ 4294967295 → base * v ≤ 68719476720
-product-small base v h l =
-    let most : base * v ≤ 16 * v = mul-le-mul-right v h in
-    omega (arith, most)
-
-pub at-most-bad : (n : Number) (most : ℕ) → n ≡ Bad → Bad ≡ atMost n most
-unfolding atMost
-at-most-bad n most e = rw e refl
-
-pub at-most-inside : (n : Number) (v most : ℕ) → n ≡ Value v → v ≤ most → Value v ≡ atMost n most
-unfolding atMost
-at-most-inside n v most e h = rw (e, le-leb v most h) refl
-
-pub at-most-above : (n : Number) (v most : ℕ) → n ≡ Value v → most < v → Bad ≡ atMost n most
-unfolding atMost
-at-most-above n v most e h = rw (e, lt-leb v most h) refl
-
-pub byte-bad : (n : Number) → n ≡ Bad → bytes.Bad ≡ byteAtMost n
-unfolding byteAtMost
-byte-bad n e = rw e refl
-
-pub byte-inside : (n : Number) (v : ℕ) → n ≡ Value v → v ≤ 255 → bytes.Value v ≡ byteAtMost n
-unfolding byteAtMost
-byte-inside n v e h = rw (e, le-leb v 255 h) refl
-
-pub byte-above : (n : Number) (v : ℕ) → n ≡ Value v → 255 < v → bytes.Bad ≡ byteAtMost n
-unfolding byteAtMost
-byte-above n v e h = rw (e, lt-leb v 255 h) refl
+pub product-small : (base v most : ℕ) → base ≤ 16 → v ≤ most → most ≤ 4294967295 → base * v ≤ 68719476720
+product-small base v most h l m =
+    let times : base * v ≤ 16 * v = mul-le-mul-right v h in
+    omega (arith, times)
 
 -- ---- byte strings
 

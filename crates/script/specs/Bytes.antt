@@ -1,6 +1,6 @@
 -- Byte strings: "A byte string is pairs of hex digits with no spaces, and `-` is the empty byte string". w is the codes of a word.
 -- Assumes nothing.
-use mathlib.Core.Bool.{Bool, cond, _&&_, _||_}
+use mathlib.Core.Bool.{Bool, _&&_, _||_}
 use mathlib.Core.List.{List, [], _∷_}
 use Prim.Native.Nat.{ℕ, _+_, _*_, _%_}
 use lib.Dec.{ltb, eqb}

@@ -1,6 +1,6 @@
 pub mod Words
 pub mod Numbers
 pub mod Bytes
-pub mod Keywords
-pub mod Commands
-pub mod CommandLaws
+pub mod Table
+pub mod Lines
+pub mod LineLaws

@@ -1,13 +1,12 @@
 -- Numbers: "Numbers are decimal unless said to be hex; hex is in capitals in output, either case in input; leading zeros are
 -- allowed." b is an ASCII code, w the codes of a word.
 -- Assumes nothing.
-use mathlib.Core.Bool.{Bool, true, false, cond, _&&_}
+use mathlib.Core.Bool.{Bool, true, cond, _&&_}
 use mathlib.Core.List.{List, [], _∷_}
 use Prim.Native.Nat.{ℕ, _+_, _-_, _*_}
 use lib.Dec.{ltb, leb}
 use lib.ListN.{length}
 use Rattle.script.specs.declared.numbers.Number as numbers
-use Rattle.script.specs.declared.numbers.Byte as bytes
 
 -- the value of a digit, 0 to 9, A to F, a to f; 16 where the code is no digit
 unfoldable pub digitOf : ℕ → ℕ
@@ -29,20 +28,10 @@ unfoldable pub valueFrom : ℕ → ℕ → List ℕ → ℕ
 valueFrom base v [] = v
 valueFrom base v (b ∷ w) = valueFrom base (base * v + digitOf b) w
 
--- digits of the base, one or more, "leading zeros are allowed", that say no "number above 4,294,967,295"
-unfoldable pub isNumber : ℕ → List ℕ → Bool
-isNumber base w = ltb 0 (length w) && (allDigits base w && leb (valueFrom base 0 w) 4294967295)
+-- digits of the base, one or more, "leading zeros are allowed", that say no more than `most`
+unfoldable pub isNumeral : ℕ → ℕ → List ℕ → Bool
+isNumeral base most w = ltb 0 (length w) && (allDigits base w && leb (valueFrom base 0 w) most)
 
--- "A line .. that has a number above 4,294,967,295 .. prints `?`"
-unfoldable pub numberOf : ℕ → List ℕ → numbers.Number
-numberOf base w = cond (isNumber base w) (numbers.the-variants.Value (valueFrom base 0 w)) numbers.the-variants.Bad
-
--- "(L at most 4,096, else `?`)", "A at most 38B"
-unfoldable pub atMost : numbers.Number → ℕ → numbers.Number
-atMost (numbers.the-variants.Value v) most = cond (leb v most) (numbers.the-variants.Value v) numbers.the-variants.Bad
-atMost numbers.the-variants.Bad most = numbers.the-variants.Bad
-
--- "V at most FF"
-unfoldable pub byteAtMost : numbers.Number → bytes.Byte
-byteAtMost (numbers.the-variants.Value v) = cond (leb v 255) (bytes.the-variants.Value v) bytes.the-variants.Bad
-byteAtMost numbers.the-variants.Bad = bytes.the-variants.Bad
+-- the number that a word says in a base, where it is at most `most`
+unfoldable pub numeralOf : ℕ → ℕ → List ℕ → numbers.Number
+numeralOf base most w = cond (isNumeral base most w) (numbers.the-variants.Value (valueFrom base 0 w)) numbers.the-variants.Bad

@@ -3,8 +3,15 @@
 use mathlib.Core.Bool.{Bool, true, false, cond, _&&_}
 use mathlib.Core.List.{List, [], _∷_}
 use Prim.Native.Nat.{ℕ, zero, suc, _+_}
+use Prim.Native.Char.{code}
+use Prim.Native.String.{String, [] as none, _∷_ as _then_}
 use lib.Dec.{eqb}
-use lib.ListN.{length, take, drop}
+use lib.ListN.{take, drop}
+
+-- the ASCII codes of a text
+unfoldable pub codes : String → List ℕ
+codes none = []
+codes (c then s) = code c ∷ codes s
 
 -- how many codes stand before the first that is the mark
 unfoldable pub lengthTo : ℕ → List ℕ → ℕ

@@ -4,16 +4,17 @@
 // strings of a line stay in it; `word` finds them and `decode` puts their bytes into a buffer.
 mod bytes;
 mod command;
-mod keywords;
+mod lines;
 mod numbers;
+mod table;
 mod words;
 
 pub use bytes::decode;
 pub use command::Command;
-pub use command::LONGEST;
-pub use command::ListCall;
-pub use command::read;
-pub use keywords::Entry;
-pub use keywords::Part;
+pub use command::Entry;
+pub use command::Lent;
+pub use command::Part;
+pub use lines::LONGEST;
+pub use lines::read;
 pub use words::line_length;
 pub use words::word;

@@ -1,16 +1,11 @@
 // Numbers in decimal (base 10) and in hex (base 16, either case). Leading zeros are allowed; an empty word, a wrong digit and a
-// number above 4,294,967,295 are bad.
+// number above the most that is asked for are bad.
 ghost use mathlib.Core.Path.{_≡_};
 ghost use Prim.Native.Nat.{_≤_};
-ghost use Rattle.script.specs.Numbers.{digitOf, numberOf, atMost, byteAtMost};
+ghost use Rattle.script.specs.Numbers.{digitOf, numeralOf};
 
 pub(crate) enum Number {
     Value(usize),
-    Bad,
-}
-
-pub(crate) enum Byte {
-    Value(u8),
     Bad,
 }
 
@@ -39,9 +34,9 @@ pub(crate) fn digit(byte: u8) -> usize
     16
 }
 
-pub(crate) fn read(word: &[u8], base: usize) -> Number
-    requires { ⌜ (1 ≤ base) × (base ≤ 16) ⌝ }
-    ensures { λ r. ⌜ r ≡ numberOf base (now (word .entry)) ⌝ }
+pub(crate) fn read(word: &[u8], base: usize, most: usize) -> Number
+    requires { ⌜ (1 ≤ base) × (base ≤ 16) × (most ≤ 4294967295) ⌝ }
+    ensures { λ r. ⌜ r ≡ numeralOf base most (now (word .entry)) ⌝ }
 {
     if word.len() == 0 {
         return Number::Bad;
@@ -54,38 +49,10 @@ pub(crate) fn read(word: &[u8], base: usize) -> Number
             return Number::Bad;
         }
         value = base * value + next;
-        if 4294967295 < value {
+        if most < value {
             return Number::Bad;
         }
         i += 1;
     }
     Number::Value(value)
-}
-
-// The number where it is at most so large.
-pub(crate) fn at_most(number: Number, most: usize) -> Number
-    ensures { λ r. ⌜ r ≡ atMost number most ⌝ }
-{
-    let Number::Value(value) = number else {
-        return Number::Bad;
-    };
-    if value <= most {
-        Number::Value(value)
-    } else {
-        Number::Bad
-    }
-}
-
-// The number as a byte, where it is at most FFh.
-pub(crate) fn to_byte(number: Number) -> Byte
-    ensures { λ r. ⌜ r ≡ byteAtMost number ⌝ }
-{
-    let Number::Value(value) = number else {
-        return Byte::Bad;
-    };
-    if value <= 255 {
-        Byte::Value(value as u8)
-    } else {
-        Byte::Bad
-    }
 }

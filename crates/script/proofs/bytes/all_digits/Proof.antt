@@ -6,7 +6,7 @@ use Rattle.script.proofs.Reading.{digits-more, digits-wrong, digits-all
 use Rattle.script.specs.Numbers.{allDigits}
 use lib.ListN.{length, drop}
 use mathlib.Core.Path.{_≡_, refl}
-use Prim.Native.Nat.{_≤_, _+_, _-_}
+use Prim.Native.Nat.{_≤_, _-_}
 use Rattle.script.proofs.bytes.all_digits.Statement.{statement}
 use Rattle.script.proofs.bytes.all_digits.Tie as tie
 

@@ -45,7 +45,9 @@ loop-less : tie.Need-loop-less Inv-loop μ-loop
 loop-less c = omega arith
 
 loop-again : tie.Need-loop-again Inv-loop μ-loop
-loop-again c = (omega arith, decodes-more _ _ _ _ _ _ _ _ (c .before .before .before .before .before .before .before .loop-test .taken) (c .before .before .before .pair .ensures) (c .before .before .put .ensures) (c .before .before .before .before .before .before .before .before .loop .inv .1))
+loop-again c =
+    let test = c .before .before .before .before .before .before .before in
+    (omega arith, decodes-more _ _ _ _ _ _ _ _ (test .loop-test .taken) (c .before .before .before .pair .ensures) (c .before .before .put .ensures) (test .before .loop .inv .1))
 
 same-length : tie.Need-same-length Inv-loop μ-loop
 same-length c = c .before .loop .inv .1 .size

@@ -25,7 +25,9 @@ all-digits-requires : tie.Need-all-digits-requires
 all-digits-requires c κs = search needs
 
 returns-4 : tie.Need-returns-4
-returns-4 c = pairs-even _ _ (sym (c .before .before .before .before .same .ensures) ∙ c .before .before .before .if1 .left) (c .before .before .if2 .left) (c .before .if3 .left) (c .all-digits .ensures)
+returns-4 c =
+    let dash = c .before .before .before in
+    pairs-even _ _ (sym (dash .before .same .ensures) ∙ dash .if1 .left) (c .before .before .if2 .left) (c .before .if3 .left) (c .all-digits .ensures)
 
 pub is-bytes-spec : {M : Type 1} → statement M
 is-bytes-spec =

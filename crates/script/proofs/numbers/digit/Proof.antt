@@ -34,7 +34,10 @@ returns-4 c = (simp (le-ltb _ _ (c .before .before .before .if1 .left), lt-leb _
 
 returns-5 : tie.Need-returns-5
 unfolding digitOf
-returns-5 c = (simp (le-ltb _ _ (c .before .before .before .before .if1 .left), lt-leb _ _ (c .before .before .before .if2 .left), le-ltb _ _ (c .before .before .if3 .left), lt-leb _ _ (c .before .if4 .left), lt-ltb _ _ (c .if5 .taken)), omega arith)
+returns-5 c =
+    let third = c .before .before in
+    let first = third .before .before in
+    (simp (le-ltb _ _ (first .if1 .left), lt-leb _ _ (third .before .if2 .left), le-ltb _ _ (third .if3 .left), lt-leb _ _ (c .before .if4 .left), lt-ltb _ _ (c .if5 .taken)), omega arith)
 
 add-result-2 : tie.Need-add-result-2
 add-result-2 c = search needs
@@ -44,11 +47,35 @@ cast-result-3 c = search needs
 
 returns-6 : tie.Need-returns-6
 unfolding digitOf
-returns-6 c = (simp (le-ltb _ _ (c .before .before .before .before .before .if1 .left), lt-leb _ _ (c .before .before .before .before .if2 .left), le-ltb _ _ (c .before .before .before .if3 .left), lt-leb _ _ (c .before .before .if4 .left), le-ltb _ _ (c .before .if5 .left), le-leb _ _ (c .if6 .taken)), omega arith)
+returns-6 c =
+    let third = c .before .before .before in
+    let first = third .before .before in (
+      simp (
+        le-ltb _ _ (first .if1 .left),
+        lt-leb _ _ (third .before .if2 .left),
+        le-ltb _ _ (third .if3 .left),
+        lt-leb _ _ (c .before .before .if4 .left),
+        le-ltb _ _ (c .before .if5 .left),
+        le-leb _ _ (c .if6 .taken),
+      ),
+      omega arith,
+    )
 
 returns-7 : tie.Need-returns-7
 unfolding digitOf
-returns-7 c = (simp (le-ltb _ _ (c .before .before .before .before .before .if1 .left), lt-leb _ _ (c .before .before .before .before .if2 .left), le-ltb _ _ (c .before .before .before .if3 .left), lt-leb _ _ (c .before .before .if4 .left), le-ltb _ _ (c .before .if5 .left), lt-leb _ _ (c .if6 .left)), omega arith)
+returns-7 c =
+    let third = c .before .before .before in
+    let first = third .before .before in (
+      simp (
+        le-ltb _ _ (first .if1 .left),
+        lt-leb _ _ (third .before .if2 .left),
+        le-ltb _ _ (third .if3 .left),
+        lt-leb _ _ (c .before .before .if4 .left),
+        le-ltb _ _ (c .before .if5 .left),
+        lt-leb _ _ (c .if6 .left),
+      ),
+      omega arith,
+    )
 
 pub digit-spec : {M : Type 1} → statement M
 digit-spec =

@@ -3,7 +3,7 @@
 use native.Mathlib.Omega.{arith}
 use Rattle.script.proofs.Reading.{EndsAt, end-here, end-more, end-all}
 use lib.ListN.{length}
-use Prim.Native.Nat.{_≤_, _+_, _-_}
+use Prim.Native.Nat.{_≤_, _-_}
 use Rattle.script.proofs.words.end.Statement.{statement}
 use Rattle.script.proofs.words.end.Tie as tie
 

@@ -4,8 +4,8 @@ use native.Mathlib.Omega.{arith}
 use Rattle.script.proofs.Reading.{same-lengths, same-more, same-differs, same-all}
 use Rattle.script.specs.Words.{sameText}
 use lib.ListN.{length, drop}
-use mathlib.Core.Path.{_≡_, refl, sym, _∙_}
-use Prim.Native.Nat.{_≤_, _+_, _-_}
+use mathlib.Core.Path.{_≡_, refl, sym}
+use Prim.Native.Nat.{_≤_, _-_}
 use Rattle.script.proofs.words.same.Statement.{statement}
 use Rattle.script.proofs.words.same.Tie as tie
 
@@ -37,7 +37,10 @@ loop-less : tie.Need-loop-less Inv-loop μ-loop
 loop-less c = omega arith
 
 loop-again : tie.Need-loop-again Inv-loop μ-loop
-loop-again c = (omega arith, c .before .before .before .before .loop .inv .1, same-more _ _ _ (c .before .before .before .loop-test .taken) (c .before .before .before .before .loop .inv .1) (c .if2 .left) (c .before .before .before .before .loop .inv .2))
+loop-again c =
+    let test = c .before .before .before in
+    let inv = test .before .loop .inv in
+    (omega arith, inv .1, same-more _ _ _ (test .loop-test .taken) (inv .1) (c .if2 .left) (inv .2))
 
 returns-3 : tie.Need-returns-3 Inv-loop μ-loop
 returns-3 c = same-all _ _ _ (c .loop-test .left) (c .before .loop .inv .1) (c .before .loop .inv .2)

@@ -1,7 +1,6 @@
 -- `script::words::space` meets its contract.
 -- Assumes nothing.
 use native.Mathlib.Omega.{arith}
-use borrow.Author.Needs.{needs}
 use borrow.Author.Tests.{eq-eqb, ne-eqb}
 use Rattle.script.specs.Words.{spaceOf}
 use Rattle.script.proofs.words.space.Statement.{statement}

@@ -6,7 +6,7 @@ use Rattle.script.proofs.Reading.{word-more, word-none, word-found}
 use Rattle.script.specs.Words.{wordAt}
 use lib.ListN.{length, drop}
 use mathlib.Core.Path.{_≡_, refl}
-use Prim.Native.Nat.{_≤_, _+_, _-_}
+use Prim.Native.Nat.{_≤_}
 use Rattle.script.proofs.words.word.Statement.{statement}
 use Rattle.script.proofs.words.word.Tie as tie
 

@@ -1,0 +1,102 @@
+-- `script::lines::other` meets its contract.
+-- Assumes nothing.
+use mathlib.Core.Path.{refl}
+use native.Mathlib.Omega.{arith}
+use Rattle.script.specs.Lines.{lines, lineAt, callAt}
+use Rattle.script.proofs.Judging.{others-above, no-call}
+use borrow.Author.Needs.{needs}
+use Rattle.script.proofs.lines.other.Statement.{statement}
+use Rattle.script.proofs.lines.other.Tie as tie
+
+part-requires : tie.Need-part-requires
+part-requires c κs = search needs
+
+entry-requires : tie.Need-entry-requires
+entry-requires c κs = search needs
+
+returns : tie.Need-returns
+unfolding callAt lineAt lines
+returns c = rw (c .match .keys1) refl
+
+returns-2 : tie.Need-returns-2
+unfolding callAt lineAt lines
+returns-2 c = rw (c .match .keys2) refl
+
+returns-3 : tie.Need-returns-3
+unfolding callAt lineAt lines
+returns-3 c = rw (c .match .keys3) refl
+
+returns-4 : tie.Need-returns-4
+unfolding callAt lineAt lines
+returns-4 c = rw (c .match .keys4) refl
+
+returns-5 : tie.Need-returns-5
+unfolding callAt lineAt lines
+returns-5 c = rw (c .match .keys5) refl
+
+returns-6 : tie.Need-returns-6
+unfolding callAt lineAt lines
+returns-6 c = rw (c .match .keys6) refl
+
+returns-7 : tie.Need-returns-7
+unfolding callAt lineAt lines
+returns-7 c = rw (c .match .keys7) refl
+
+returns-8 : tie.Need-returns-8
+unfolding callAt lineAt lines
+returns-8 c = rw (c .match .keys8) refl
+
+returns-9 : tie.Need-returns-9
+unfolding callAt lineAt lines
+returns-9 c = rw (c .match .keys9) refl
+
+returns-10 : tie.Need-returns-10
+unfolding callAt lineAt lines
+returns-10 c = rw (c .match .keys10) refl
+
+returns-11 : tie.Need-returns-11
+unfolding callAt lineAt lines
+returns-11 c = rw (c .match .keys11) refl
+
+returns-12 : tie.Need-returns-12
+unfolding callAt lineAt lines
+returns-12 c = rw (c .match .keys12) refl
+
+returns-13 : tie.Need-returns-13
+unfolding callAt lineAt lines
+returns-13 c = rw (c .before .match .keys13, c .part .ensures) refl
+
+returns-14 : tie.Need-returns-14
+unfolding callAt lineAt lines
+returns-14 c = rw (c .before .match .keys14, c .entry .ensures) refl
+
+returns-15 : tie.Need-returns-15
+unfolding callAt lineAt lines
+returns-15 c = rw (c .match .keys15) refl
+
+returns-16 : tie.Need-returns-16
+unfolding lines
+returns-16 c = let behind = others-above _ 15 (c .match .rest) in no-call _ _ _ _ (omega (arith, behind))
+
+pub other-spec : {M : Type 1} → statement M
+other-spec =
+    tie.close
+    (tie.spec
+    part-requires
+    entry-requires
+    returns
+    returns-2
+    returns-3
+    returns-4
+    returns-5
+    returns-6
+    returns-7
+    returns-8
+    returns-9
+    returns-10
+    returns-11
+    returns-12
+    returns-13
+    returns-14
+    returns-15
+    returns-16)

@@ -1,0 +1,21 @@
+-- `script::lines::part` meets its contract.
+-- Assumes nothing.
+use borrow.Author.Tests.{ne-eqb}
+use Rattle.script.specs.Lines.{partAt}
+use Rattle.script.proofs.lines.part.Statement.{statement}
+use Rattle.script.proofs.lines.part.Tie as tie
+
+returns : tie.Need-returns
+unfolding partAt
+returns c = simp (c .match .keys1)
+
+returns-2 : tie.Need-returns-2
+unfolding partAt
+returns-2 c = simp (c .match .keys2)
+
+returns-3 : tie.Need-returns-3
+unfolding partAt
+returns-3 c = simp (ne-eqb _ 0 (c .match .rest .0 .1), ne-eqb _ 1 (c .match .rest .1))
+
+pub part-spec : {M : Type 1} → statement M
+part-spec = tie.close (tie.spec returns returns-2 returns-3)

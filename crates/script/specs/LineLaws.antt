@@ -1,0 +1,180 @@
+-- Laws of Lines.antt: what a command asks for is there.
+-- Assumes nothing.
+use mathlib.Core.Path.{_≡_, refl, sym, subst, _∙_}
+use mathlib.Core.Bool.{Bool, true, false, cond, _&&_}
+use mathlib.Core.List.{List, [], _∷_}
+use Prim.Native.Nat.{ℕ, zero, suc, min, _+_, _≤_, _<_}
+use native.Mathlib.Omega.{arith}
+use borrow.Author.Tests.{leb-true, ltb-true}
+use lib.Dec.{ltb, leb, eqb}
+use lib.ListN.{length, getD}
+use Rattle.calls.specs.declared.Request.{Request}
+use Rattle.calls.specs.declared.Request.the-variants.{Set, Reset, PowerLost, Update}
+use Rattle.script.specs.declared.command.Command.{Command}
+use Rattle.script.specs.declared.command.Command.the-variants.{Bad, Open, Call, ClearOpens, ClearShorts, Feed, Faults, Show, Poke, Header, Check}
+use Rattle.script.specs.declared.command.Lent.{Lent}
+use Rattle.script.specs.declared.command.Lent.the-variants.{Nothing, Word, Room}
+use Rattle.script.specs.declared.numbers.Number.{Number}
+use Rattle.script.specs.declared.numbers.Number.the-variants.{Value, Bad as NoNumber}
+use Rattle.script.specs.declared.lines.Three.the-variants.{Bad as NotAll}
+use Rattle.script.specs.Words.{wordAt, wordCount}
+use Rattle.script.specs.Numbers.{allDigits, valueFrom, isNumeral, numeralOf}
+use Rattle.script.specs.Bytes.{isBytes}
+use Rattle.script.specs.Table.{placeOf}
+use Rattle.script.specs.Lines.{decimal, hex, byte, small, address, room, bytes, part, entry, parts, entries}
+use Rattle.script.specs.Lines.{Row, lines, firstWords, noLine, lineAt, namedOf, argumentOf, valueAt, threeOf, argumentsOf, callAt, calledBy, judged, commandOf}
+
+-- ---- what a command asks for is there: the line of a byte string has at most 8,192 bytes, a buffer at most 4,096, and a byte that is put
+-- behind the calls' back is one, at an address below 908
+
+unfoldable pub LentFits : List ℕ → Lent → Type 0
+LentFits l Nothing = 0 ≤ 0
+LentFits l (Word n) = length l ≤ 8192
+LentFits l (Room n) = n ≤ 4096
+
+-- a buffer is lent to a call that writes a list, and to no other
+unfoldable pub BufferFits : Request → Lent → Type 0
+BufferFits q Nothing = 0 ≤ 0
+BufferFits q (Word n) = 0 ≤ 0
+BufferFits (Set q) (Room n) = 1 ≤ 0
+BufferFits Reset (Room n) = 0 ≤ 0
+BufferFits PowerLost (Room n) = 1 ≤ 0
+BufferFits Update (Room n) = 0 ≤ 0
+
+unfoldable pub Fits : List ℕ → Command → Type 0
+Fits l Bad = 0 ≤ 0
+Fits l (Open m b p) = 0 ≤ 0
+Fits l (Call q lent) = LentFits l lent × BufferFits q lent
+Fits l (ClearOpens n) = n ≤ 4096
+Fits l (ClearShorts n) = n ≤ 4096
+Fits l (Feed n) = length l ≤ 8192
+Fits l (Faults m k n) = (length l ≤ 8192) × (n ≤ 4096)
+Fits l (Show p) = 0 ≤ 0
+Fits l (Poke p a v) = (a < 908) × (v < 256)
+Fits l (Header e v) = v < 256
+Fits l Check = 0 ≤ 0
+
+-- the most that a word of a kind says
+mostOf : ℕ → ℕ
+mostOf k =
+    cond (eqb k decimal) 4294967295
+    (cond (eqb k hex) 4294967295
+    (cond (eqb k byte) 0xFF
+    (cond (eqb k small) 255
+    (cond (eqb k address) 0x38B
+    (cond (eqb k room) 4096
+    (cond (eqb k bytes) 0
+    (cond (eqb k part) 3
+    (cond (eqb k entry) 3 0))))))))
+
+mostAt : List ℕ → ℕ → ℕ
+mostAt ks n = cond (ltb n (length ks)) (mostOf (getD ks n 0)) 0
+
+-- what a row calls with words that say no more than their kinds allow
+callWithin : Row → ℕ → ℕ → ℕ → Command
+callWithin r a b c = r .call (min a (mostAt (r .kinds) 0)) (min b (mostAt (r .kinds) 1)) (min c (mostAt (r .kinds) 2))
+
+EachFits : List ℕ → List Row → ℕ → ℕ → ℕ → Type 0
+EachFits l [] a b c = 0 ≤ 0
+EachFits l (r ∷ rs) a b c = Fits l (callWithin r a b c) × EachFits l rs a b c
+
+each-line-fits : (l : List ℕ) (a b c : ℕ) → length l ≤ 8192 → EachFits l lines a b c
+unfolding EachFits lines callWithin Fits LentFits BufferFits mostAt mostOf
+each-line-fits l a b c h = omega arith
+
+row-fits : (l : List ℕ) (rs : List Row) (k a b c : ℕ) → EachFits l rs a b c → Fits l (callWithin (getD rs k noLine) a b c)
+unfolding EachFits callWithin Fits noLine
+row-fits l [] k a b c h = omega arith
+row-fits l (r ∷ rs) zero a b c h = h .0
+row-fits l (r ∷ rs) (suc k) a b c h = row-fits l rs k a b c (h .1)
+
+-- a number that a word says, where it says one, is at most so large
+Most : Number → ℕ → Type 0
+Most x m = (v : ℕ) → x ≡ Value v → v ≤ m
+
+most-value : (v m : ℕ) → v ≤ m → Most (Value v) m
+unfolding Most
+most-value v m h w e = let same : v ≡ w = cc in omega arith
+
+most-bad : (m : ℕ) → Most NoNumber m
+unfolding Most
+most-bad m w e = let z : _≡_ {A = ℕ} 0 1 = cc in absurd (omega arith)
+
+most-when : (t : Bool) (v m : ℕ) → (t ≡ true → v ≤ m) → Most (cond t (Value v) NoNumber) m
+most-when true v m h = most-value v m (h refl)
+most-when false v m h = most-bad m
+
+most-either : (t : Bool) (x y : Number) (m n : ℕ) → Most x m → Most y n → Most (cond t x y) (cond t m n)
+most-either true x y m n p q = p
+most-either false x y m n p q = q
+
+numeral-most : (base most : ℕ) (w : List ℕ) → Most (numeralOf base most w) most
+unfolding numeralOf isNumeral
+numeral-most base most w = go (ltb 0 (length w)) (allDigits base w) (leb (valueFrom base 0 w) most) refl
+  where
+    go : (s d t : Bool) → leb (valueFrom base 0 w) most ≡ t → Most (cond (s && (d && t)) (Value (valueFrom base 0 w)) NoNumber) most
+    go true true t e = most-when t (valueFrom base 0 w) most (λ h. leb-true (valueFrom base 0 w) most (e ∙ h))
+    go true false t e = most-bad most
+    go false d t e = most-bad most
+
+named-most : (w : List ℕ) (names : List (List ℕ)) → Most (namedOf w names) (length names)
+unfolding namedOf
+named-most w names =
+    most-when (ltb (placeOf w names) (length names)) (placeOf w names) (length names)
+    (λ h. let inside = ltb-true (placeOf w names) (length names) h in omega arith)
+
+argument-most : (k : ℕ) (w : List ℕ) → Most (argumentOf k w) (mostOf k)
+unfolding argumentOf mostOf parts entries
+argument-most k w =
+    most-either (eqb k decimal) _ _ _ _ (numeral-most 10 4294967295 w)
+    (most-either (eqb k hex) _ _ _ _ (numeral-most 16 4294967295 w)
+    (most-either (eqb k byte) _ _ _ _ (numeral-most 16 0xFF w)
+    (most-either (eqb k small) _ _ _ _ (numeral-most 10 255 w)
+    (most-either (eqb k address) _ _ _ _ (numeral-most 16 0x38B w)
+    (most-either (eqb k room) _ _ _ _ (numeral-most 10 4096 w)
+    (most-either (eqb k bytes) _ _ _ _ (most-when (isBytes w) 0 0 (λ h. omega arith))
+    (most-either (eqb k part) _ _ _ _ (named-most w parts)
+    (most-either (eqb k entry) _ _ _ _ (named-most w entries) (most-bad 0)))))))))
+
+value-most : (ks l : List ℕ) (n : ℕ) → Most (valueAt ks l n) (mostAt ks n)
+unfolding valueAt mostAt
+value-most ks l n = most-either (ltb n (length ks)) _ _ _ _ (argument-most (getD ks n 0) (wordAt l (n + 1))) (most-value 0 0 (omega arith))
+
+within-is : (r : Row) (a b c : ℕ) → a ≤ mostAt (r .kinds) 0 → b ≤ mostAt (r .kinds) 1 → c ≤ mostAt (r .kinds) 2 → callWithin r a b c ≡ r .call a b c
+unfolding callWithin
+within-is r a b c ha hb hc = go (r .call) _ _ _ _ _ _ (omega arith) (omega arith) (omega arith)
+  where
+    go : (f : ℕ → ℕ → ℕ → Command) (x y z u v w : ℕ) → x ≡ u → y ≡ v → z ≡ w → f x y z ≡ f u v w
+    go f x y z u v w p q r = rw (p, q, r) refl
+
+call-fits : (l : List ℕ) (k a b c : ℕ) → length l ≤ 8192 → a ≤ mostAt (lineAt k .kinds) 0 → b ≤ mostAt (lineAt k .kinds) 1 → c ≤ mostAt (lineAt k .kinds) 2 →
+    Fits l (callAt k a b c)
+unfolding callAt lineAt
+call-fits l k a b c h ha hb hc = subst (Fits l) (within-is (lineAt k) a b c ha hb hc) (row-fits l lines k a b c (each-line-fits l a b c h))
+
+judged-fits : (l : List ℕ) (k : ℕ) → length l ≤ 8192 → Fits l (judged k l)
+unfolding judged argumentsOf threeOf calledBy Fits Most
+judged-fits l k h = go (eqb (wordCount l) (length ks + 1)) (valueAt ks l 0) (valueAt ks l 1) (valueAt ks l 2) (value-most ks l 0) (value-most ks l 1) (value-most ks l 2)
+  where
+    ks : List ℕ
+    ks = lineAt k .kinds
+
+    go : (t : Bool) (x y z : Number) → Most x (mostAt ks 0) → Most y (mostAt ks 1) → Most z (mostAt ks 2) →
+        Fits l (calledBy k (cond t (threeOf x y z) NotAll))
+    go true (Value a) (Value b) (Value c) p q r = call-fits l k a b c h (p a refl) (q b refl) (r c refl)
+    go true (Value a) (Value b) NoNumber p q r = omega arith
+    go true (Value a) NoNumber z p q r = omega arith
+    go true NoNumber y z p q r = omega arith
+    go false x y z p q r = omega arith
+
+command-fits : (l : List ℕ) → Fits l (commandOf l)
+unfolding commandOf Fits
+command-fits l = go (leb (length l) 8192) refl
+  where
+    go : (t : Bool) → leb (length l) 8192 ≡ t → Fits l (cond t (judged (placeOf (wordAt l 0) firstWords) l) Bad)
+    go true e = judged-fits l (placeOf (wordAt l 0) firstWords) (leb-true (length l) 8192 e)
+    go false e = omega arith
+
+-- c is what `read` answers, d what it is
+pub fits : (l : List ℕ) (c d : Command) → c ≡ commandOf l → c ≡ d → Fits l d
+fits l c d e is = subst (Fits l) (sym e ∙ is) (command-fits l)

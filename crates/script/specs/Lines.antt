@@ -1,0 +1,179 @@
+-- The lines of a script: docs/REPLAY.md's table, a row a line. l is the ASCII codes of a line, w those of a word.
+-- Assumes nothing.
+use mathlib.Core.Bool.{cond}
+use mathlib.Core.List.{List, [], _∷_, map}
+use Prim.Native.Nat.{ℕ, _+_}
+use Prim.Native.Char.{code}
+use Prim.Native.String.{String}
+use lib.Dec.{eqb, ltb, leb}
+use lib.ListN.{length, getD}
+use Rattle.calls.specs.declared.Setting.the-variants.{Register, Lamp, Group, Switch, Scene}
+use Rattle.calls.specs.declared.Request.the-variants.{Set, Reset, PowerLost, Update}
+use Rattle.script.specs.declared.command.Command.{Command}
+use Rattle.script.specs.declared.command.Command.the-variants.{Bad, Open, Call, ClearOpens, ClearShorts, Feed, Faults, Show, Poke, Header, Check}
+use Rattle.script.specs.declared.command.Lent.the-variants.{Nothing, Word, Room}
+use Rattle.script.specs.declared.command.Part.{Part}
+use Rattle.script.specs.declared.command.Part.the-variants.{Settings, Image, Chip}
+use Rattle.script.specs.declared.command.Entry.{Entry}
+use Rattle.script.specs.declared.command.Entry.the-variants.{Member, Bus, Pins}
+use Rattle.script.specs.declared.numbers.Number.{Number}
+use Rattle.script.specs.declared.numbers.Number.the-variants.{Value, Bad as NoNumber}
+use Rattle.script.specs.declared.lines.Three.{Three}
+use Rattle.script.specs.declared.lines.Three.the-variants.{Values, Bad as NotAll}
+use Rattle.script.specs.Words.{codes, wordAt, wordCount}
+use Rattle.script.specs.Numbers.{numeralOf}
+use Rattle.script.specs.Bytes.{isBytes}
+use Rattle.script.specs.Table.{placeOf}
+
+-- ---- the kinds of words, each by the letter that it has in the code's table
+
+-- "Numbers are decimal unless said to be hex"
+abbrev pub decimal : ℕ
+decimal = code "d"
+
+-- "A and V hex"
+abbrev pub hex : ℕ
+hex = code "h"
+
+-- "V above FF prints `?`"
+abbrev pub byte : ℕ
+byte = code "b"
+
+-- "decimal, at most 255, else `?`"
+abbrev pub small : ℕ
+small = code "n"
+
+-- "A at most 38B"
+abbrev pub address : ℕ
+address = code "a"
+
+-- "A buffer of L bytes (L at most 4,096, else `?`)"
+abbrev pub room : ℕ
+room = code "r"
+
+-- "A byte string is pairs of hex digits"
+abbrev pub bytes : ℕ
+bytes = code "s"
+
+-- "W is `settings`, `image` or `chip`"
+abbrev pub part : ℕ
+part = code "p"
+
+-- "W is `member`, `bus` or `pins`"
+abbrev pub entry : ℕ
+entry = code "e"
+
+-- the words of W, and what each of them names
+unfoldable pub parts : List (List ℕ)
+parts = codes "settings" ∷ codes "image" ∷ codes "chip" ∷ []
+
+unfoldable pub partAt : ℕ → Part
+partAt n = cond (eqb n 0) Settings (cond (eqb n 1) Image Chip)
+
+-- the words of W, and what each of them names
+unfoldable pub entries : List (List ℕ)
+entries = codes "member" ∷ codes "bus" ∷ codes "pins" ∷ []
+
+unfoldable pub entryAt : ℕ → Entry
+entryAt n = cond (eqb n 0) Member (cond (eqb n 1) Bus Pins)
+
+-- ---- the table
+
+-- a line's first word, the kinds of its other words, and the command that it is, by what those say
+pub record Row : Type 0 where
+  pub text : List ℕ
+  pub kinds : List ℕ
+  pub call : ℕ → ℕ → ℕ → Command
+
+abbrev row : String → List ℕ → (ℕ → ℕ → ℕ → Command) → Row
+row t ks f = record { text = codes t; kinds = ks; call = f }
+
+-- the settings that are lent nothing stand first
+unfoldable pub lines : List Row
+lines =
+    row "register" (hex ∷ byte ∷ []) (λ a v z. Call (Set (Register a v)) Nothing)
+    ∷ row "lamp" (decimal ∷ decimal ∷ decimal ∷ []) (λ l s v. Call (Set (Lamp l s v)) Nothing)
+    ∷ row "group" (decimal ∷ decimal ∷ decimal ∷ []) (λ l s g. Call (Set (Group l s g)) Nothing)
+    ∷ row "switch" (decimal ∷ decimal ∷ decimal ∷ []) (λ l s x. Call (Set (Switch l s x)) Nothing)
+    ∷ row "open" (decimal ∷ decimal ∷ decimal ∷ []) (λ m b p. Open m b p)
+    ∷ row "scene" (bytes ∷ []) (λ x y z. Call (Set Scene) (Word 1))
+    ∷ row "update" (room ∷ []) (λ n y z. Call Update (Room n))
+    ∷ row "reset" (room ∷ []) (λ n y z. Call Reset (Room n))
+    ∷ row "power" [] (λ x y z. Call PowerLost Nothing)
+    ∷ row "clearopens" (room ∷ []) (λ n y z. ClearOpens n)
+    ∷ row "clearshorts" (room ∷ []) (λ n y z. ClearShorts n)
+    ∷ row "feed" (bytes ∷ []) (λ x y z. Feed 1)
+    ∷ row "faults" (decimal ∷ bytes ∷ room ∷ []) (λ m y n. Faults m 2 n)
+    ∷ row "settings" [] (λ x y z. Show Settings)
+    ∷ row "image" [] (λ x y z. Show Image)
+    ∷ row "chip" [] (λ x y z. Show Chip)
+    ∷ row "poke" (part ∷ address ∷ byte ∷ []) (λ w a v. Poke (partAt w) a v)
+    ∷ row "header" (entry ∷ small ∷ []) (λ w v z. Header (entryAt w) v)
+    ∷ row "check" [] (λ x y z. Check)
+    ∷ []
+
+-- the first word of each line
+unfoldable pub firstWords : List (List ℕ)
+firstWords = map (λ (r : Row). r .text) lines
+
+-- the kinds of its other words
+unfoldable pub otherKinds : List (List ℕ)
+otherKinds = map (λ (r : Row). r .kinds) lines
+
+-- "A line that is no call"
+unfoldable pub noLine : Row
+noLine = row "" [] (λ x y z. Bad)
+
+-- row k, counted from 0
+unfoldable pub lineAt : ℕ → Row
+lineAt k = getD lines k noLine
+
+-- ---- how a line is judged
+
+-- the place of a word among others
+unfoldable pub namedOf : List ℕ → List (List ℕ) → Number
+namedOf w names = cond (ltb (placeOf w names) (length names)) (Value (placeOf w names)) NoNumber
+
+-- what a word of a kind says; a byte string says 0, since its bytes are lent
+unfoldable pub argumentOf : ℕ → List ℕ → Number
+argumentOf k w =
+    cond (eqb k decimal) (numeralOf 10 4294967295 w)
+    (cond (eqb k hex) (numeralOf 16 4294967295 w)
+    (cond (eqb k byte) (numeralOf 16 0xFF w)
+    (cond (eqb k small) (numeralOf 10 255 w)
+    (cond (eqb k address) (numeralOf 16 0x38B w)
+    (cond (eqb k room) (numeralOf 10 4096 w)
+    (cond (eqb k bytes) (cond (isBytes w) (Value 0) NoNumber)
+    (cond (eqb k part) (namedOf w parts)
+    (cond (eqb k entry) (namedOf w entries) NoNumber))))))))
+
+-- what word n behind the first says; 0 where the row has none
+unfoldable pub valueAt : List ℕ → List ℕ → ℕ → Number
+valueAt ks l n = cond (ltb n (length ks)) (argumentOf (getD ks n 0) (wordAt l (n + 1))) (Value 0)
+
+-- three words, where each of them says something
+unfoldable pub threeOf : Number → Number → Number → Three
+threeOf (Value a) (Value b) (Value c) = Values a b c
+threeOf (Value a) (Value b) NoNumber = NotAll
+threeOf (Value a) NoNumber z = NotAll
+threeOf NoNumber y z = NotAll
+
+-- "A line that is no call": one with more or fewer words than its row, or with a word that is not of its kind, is none
+unfoldable pub argumentsOf : List ℕ → List ℕ → Three
+argumentsOf ks l = cond (eqb (wordCount l) (length ks + 1)) (threeOf (valueAt ks l 0) (valueAt ks l 1) (valueAt ks l 2)) NotAll
+
+-- the command of row k
+unfoldable pub callAt : ℕ → ℕ → ℕ → ℕ → Command
+callAt k a b c = lineAt k .call a b c
+
+unfoldable pub calledBy : ℕ → Three → Command
+calledBy k (Values a b c) = callAt k a b c
+calledBy k NotAll = Bad
+
+-- a line whose first word is that of row k
+unfoldable pub judged : ℕ → List ℕ → Command
+judged k l = calledBy k (argumentsOf (lineAt k .kinds) l)
+
+-- "Words are judged before the call", and a line of "more than 8,192 bytes (its LF not counted) prints `?`"
+unfoldable pub commandOf : List ℕ → Command
+commandOf l = cond (leb (length l) 8192) (judged (placeOf (wordAt l 0) firstWords) l) Bad
