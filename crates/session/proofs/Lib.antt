@@ -1,1 +1,3 @@
-mod Playing
+mod Buffers
+mod Comparing
+mod Effects

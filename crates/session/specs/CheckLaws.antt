@@ -12,19 +12,19 @@ use lib.Dec.{eqb}
 use lib.ListN.{getD}
 use Rattle.map.specs.Map.{writableOf}
 use Rattle.replies.specs.declared.Reply.{Reply}
-use Rattle.replies.specs.declared.Reply.the-variants.{Bad, Answered, Lent, Read, Bytes, Same, Differs}
-use Rattle.session.specs.declared.run.Session.{Session}
-use Rattle.session.specs.Run.{differsAt, compareFrom, compared}
+use Rattle.replies.specs.declared.Reply.the-variants.{Bad, Numbers, Lent, Bytes, Same, Differs}
+use Rattle.session.specs.declared.Session.{Session}
+use Rattle.session.specs.Run.{Plain, chipDiffers, compareFrom, compared}
 
 -- ---- one address
 
 -- what differs is writable, and the bytes are not the same
-differs-not : (m a held asked : ℕ) → differsAt m a held asked ≡ true → held ≡ asked → ⊥
-unfolding differsAt
+differs-not : (m a held asked : ℕ) → chipDiffers m a held asked ≡ true → held ≡ asked → ⊥
+unfolding chipDiffers
 differs-not m a held asked e s = false≢true (sym (rw (eq-eqb held asked s) refl) ∙ e)
 
-differs-writable : (m a held asked : ℕ) → differsAt m a held asked ≡ true → writableOf m a ≡ true
-unfolding differsAt
+differs-writable : (m a held asked : ℕ) → chipDiffers m a held asked ≡ true → writableOf m a ≡ true
+unfolding chipDiffers
 differs-writable m a held asked e = go (not (eqb held asked)) (writableOf m a) e
   where
     go : (x y : Bool) → (x && y) ≡ true → y ≡ true
@@ -32,8 +32,8 @@ differs-writable m a held asked e = go (not (eqb held asked)) (writableOf m a) e
     go false y q = absurd (false≢true q)
 
 -- a writable address that does not differ has the same bytes
-agrees-same : (m a held asked : ℕ) → differsAt m a held asked ≡ false → writableOf m a ≡ true → held ≡ asked
-unfolding differsAt
+agrees-same : (m a held asked : ℕ) → chipDiffers m a held asked ≡ false → writableOf m a ≡ true → held ≡ asked
+unfolding chipDiffers
 agrees-same m a held asked e w = eqb-true held asked (go (eqb held asked) (writableOf m a) e w)
   where
     go : (x y : Bool) → (not x && y) ≡ false → y ≡ true → x ≡ true
@@ -45,9 +45,8 @@ agrees-same m a held asked e w = eqb-true held asked (go (eqb held asked) (writa
 -- tells `?`, `same` and each address that `differs` names apart
 abbrev named : Reply → ℕ
 named Bad = 1
-named (Answered answer) = 0
-named (Lent answer) = 0
-named (Read answer) = 0
+named (Numbers n) = 0
+named (Lent n) = 0
 named Bytes = 0
 named Same = 0
 named (Differs a) = 2 + a
@@ -65,7 +64,7 @@ module _ (m : ℕ) (x y : List ℕ) where
     pub differs : getD x k 0 ≡ getD y k 0 → ⊥
     pub lowest : (j : ℕ) → a ≤ j → j < k → SameAt j
 
-  step : (a n : ℕ) (t : Bool) → differsAt m a (getD x a 0) (getD y a 0) ≡ t →
+  step : (a n : ℕ) (t : Bool) → chipDiffers m a (getD x a 0) (getD y a 0) ≡ t →
       compareFrom m x y a (suc n) ≡ elim t [ true ↦ Differs a | false ↦ compareFrom m x y (suc a) n ]
   unfolding compareFrom
   step a n t e = rw (e, compareFrom) refl
@@ -78,25 +77,25 @@ module _ (m : ℕ) (x y : List ℕ) where
   says-from : (n a : ℕ) → Says (compareFrom m x y a n)
   unfolding compareFrom
   says-from zero a = same refl
-  says-from (suc n) a = go (says-from n (suc a)) (differsAt m a (getD x a 0) (getD y a 0)) refl
+  says-from (suc n) a = go (says-from n (suc a)) (chipDiffers m a (getD x a 0) (getD y a 0)) refl
     where
-      go : Says (compareFrom m x y (suc a) n) → (t : Bool) → differsAt m a (getD x a 0) (getD y a 0) ≡ t → Says (compareFrom m x y a (suc n))
+      go : Says (compareFrom m x y (suc a) n) → (t : Bool) → chipDiffers m a (getD x a 0) (getD y a 0) ≡ t → Says (compareFrom m x y a (suc n))
       go rest true q = differs a (step a n true q)
       go (same e) false q = same (step a n false q ∙ e)
       go (differs k e) false q = differs k (step a n false q ∙ e)
 
   same-from : (n a : ℕ) → compareFrom m x y a n ≡ Same → (k : ℕ) → a ≤ k → k < a + n → SameAt k
   same-from zero a e k l h = absurd (omega arith)
-  same-from (suc n) a e k l h = go (same-from n (suc a)) (differsAt m a (getD x a 0) (getD y a 0)) refl (ℕ-discrete k a)
+  same-from (suc n) a e k l h = go (same-from n (suc a)) (chipDiffers m a (getD x a 0) (getD y a 0)) refl (ℕ-discrete k a)
     where
       go : (compareFrom m x y (suc a) n ≡ Same → (j : ℕ) → suc a ≤ j → j < suc a + n → SameAt j) →
-          (t : Bool) → differsAt m a (getD x a 0) (getD y a 0) ≡ t → Dec (k ≡ a) → SameAt k
+          (t : Bool) → chipDiffers m a (getD x a 0) (getD y a 0) ≡ t → Dec (k ≡ a) → SameAt k
       go rest true q d w = let z : 2 + a ≡ 0 = ap named (sym (step a n true q) ∙ e) in absurd (omega arith)
       go rest false q (yes p) w = rw p (agrees-same m a (getD x a 0) (getD y a 0) q (sym (ap (writableOf m) p) ∙ w))
       go rest false q (no p) w = rest (sym (step a n false q) ∙ e) k (omega arith) (omega arith) w
 
   -- the first of the addresses is the lowest that differs
-  first-lowest : (n a : ℕ) → differsAt m a (getD x a 0) (getD y a 0) ≡ true → Lowest a (suc n) a
+  first-lowest : (n a : ℕ) → chipDiffers m a (getD x a 0) (getD y a 0) ≡ true → Lowest a (suc n) a
   first-lowest n a q = record {
     from = omega arith;
     below = omega arith;
@@ -106,7 +105,7 @@ module _ (m : ℕ) (x y : List ℕ) where
   }
 
   -- or it does not, and the lowest is among the others
-  later-lowest : (n a k : ℕ) → differsAt m a (getD x a 0) (getD y a 0) ≡ false → Lowest (suc a) n k → Lowest a (suc n) k
+  later-lowest : (n a k : ℕ) → chipDiffers m a (getD x a 0) (getD y a 0) ≡ false → Lowest (suc a) n k → Lowest a (suc n) k
   later-lowest n a k q rest = record {
     from = omega (arith, rest .from);
     below = omega (arith, rest .below);
@@ -122,10 +121,10 @@ module _ (m : ℕ) (x y : List ℕ) where
   differs-from : (n a k : ℕ) → compareFrom m x y a n ≡ Differs k → Lowest a n k
   unfolding compareFrom
   differs-from zero a k e = let z : 0 ≡ 2 + k = ap named e in absurd (omega arith)
-  differs-from (suc n) a k e = go (differs-from n (suc a) k) (differsAt m a (getD x a 0) (getD y a 0)) refl
+  differs-from (suc n) a k e = go (differs-from n (suc a) k) (chipDiffers m a (getD x a 0) (getD y a 0)) refl
     where
       go : (compareFrom m x y (suc a) n ≡ Differs k → Lowest (suc a) n k) →
-          (t : Bool) → differsAt m a (getD x a 0) (getD y a 0) ≡ t → Lowest a (suc n) k
+          (t : Bool) → chipDiffers m a (getD x a 0) (getD y a 0) ≡ t → Lowest a (suc n) k
       go rest true q =
           let z : 2 + a ≡ 2 + k = ap named (sym (step a n true q) ∙ e) in
           let here : a ≡ k = omega arith in
@@ -171,3 +170,22 @@ module _ (s : Session) where
   pub check-void : s .valid ≡ false → compared s ≡ Bad
   unfolding compared
   check-void e = rw e refl
+
+-- what it prints has no numbers of an answer
+plain-from : (m : ℕ) (x y : List ℕ) (n a : ℕ) → Plain (compareFrom m x y a n)
+unfolding Plain compareFrom
+plain-from m x y zero a = omega arith
+plain-from m x y (suc n) a = go (chipDiffers m a (getD x a 0) (getD y a 0)) (plain-from m x y n (suc a))
+  where
+    go : (t : Bool) → Plain (compareFrom m x y (suc a) n) → Plain (elim t [ true ↦ Differs a | false ↦ compareFrom m x y (suc a) n ])
+    go true h = omega arith
+    go false h = h
+
+pub compared-plain : (s : Session) → Plain (compared s)
+unfolding compared Plain
+compared-plain s = go (s .valid) (plain-from (s .ledger .member) (s .world .chip .registers) (s .ledger .bytes) 908 0)
+  where
+    go : (t : Bool) → Plain (compareFrom (s .ledger .member) (s .world .chip .registers) (s .ledger .bytes) 0 908) →
+        Plain (cond t (compareFrom (s .ledger .member) (s .world .chip .registers) (s .ledger .bytes) 0 908) Bad)
+    go true h = h
+    go false h = omega arith

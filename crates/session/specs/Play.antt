@@ -4,8 +4,8 @@
 use mathlib.Core.List.{List}
 use Prim.Native.Nat.{ℕ}
 use lib.ListN.{replicate}
-use Rattle.session.specs.declared.run.Session.{Session}
-use Rattle.session.specs.Run.{runOf, shownOf}
+use Rattle.session.specs.declared.Session.{Session}
+use Rattle.session.specs.Run.{runOf}
 use Rattle.replies.specs.Replies.{replyLine}
 
 -- "A buffer of L bytes (L at most 4,096, else `?`) is lent filled with A5h": it is the first L bytes of this
@@ -18,7 +18,7 @@ sessionAfter s l = runOf s l freshBuffer .session
 
 -- the line that it prints: its reply, "and after the call ALL its L bytes are printed"
 unfoldable pub printed : Session → List ℕ → List ℕ
-printed s l = replyLine (runOf s l freshBuffer .reply) (shownOf s l freshBuffer)
+printed s l = replyLine (runOf s l freshBuffer .reply) (runOf s l freshBuffer .shown)
 
 -- no line prints more bytes, its LF counted (PlayLaws): `0 n t BUFFER` with three digits for n and for t, and 4,096 bytes
 abbrev pub longestLine : ℕ

@@ -1,66 +1,62 @@
--- Laws of Play.antt: no line prints more than 8,203 bytes, since an answer has at most `0 n t` with three digits for n and for t, a buffer
--- at most 8,192 digits, and between and behind them stand a space and LF.
+-- Laws of Play.antt: no line prints more than 8,203 bytes, since an answer with a buffer has at most `0 n t` with three digits for n and for t,
+-- a buffer at most 8,192 digits, and between and behind them stand a space and LF. An answer without a buffer has at most five numbers
+-- of 20 digits, whatever the call.
 -- Assumes nothing.
-use mathlib.Core.Path.{_≡_, refl, ap}
+use mathlib.Core.Path.{_≡_, refl}
 use mathlib.Core.Bool.{Bool, true, false, cond}
 use mathlib.Core.List.{List, [], _∷_, _++_}
-use Prim.Native.Nat.{ℕ, zero, suc, _+_, _^_, _≤_, _<_}
+use Prim.Native.Nat.{ℕ, zero, suc, _+_, _≤_, _<_}
 use native.Mathlib.Omega.{arith}
 use lib.Dec.{leb}
 use lib.ListN.{length, getD, take, length-append}
-use Rattle.map.specs.declared.refusals.Answer as answers
+use Rattle.map.specs.declared.refusals.Numbers as numbers
 use Rattle.map.specs.declared.refusals.Refusal.{Refusal}
 use Rattle.map.specs.declared.refusals.Refusal.the-variants.{Member, Bus, Pins, NotWritable, ReservedBit, NoDot, Level, GroupOrState, SceneLength, BufferShort, ListSizes, FaultLength, Unsound}
-use Rattle.map.specs.Refusals.{refusalNumber, answerNumber, openAnswer}
+use Rattle.map.specs.Refusals.{refusalNumber, numbersIn, numbersOf}
+use Rattle.burst.specs.Burst.{busBytes}
+use Rattle.calls.specs.declared.Request.{Request}
+use Rattle.calls.specs.declared.Request.the-variants.{Set, Reset, PowerLost, Update}
 use Rattle.host.specs.declared.Record.{Record}
-use Rattle.host.specs.Record.{soundOf, registerOf, lampOf, groupOf, switchOf, sceneOf, powerLostOf}
-use Rattle.chip.specs.Chip.{feedOf}
-use Rattle.update.specs.declared.ListAnswer.the-variants.{Listed, Short, Refused}
-use Rattle.update.specs.Update.{listNumbers, listSize, writesOf, updateAnswer, updateOf, commandAnswer, chipResetOf, clearOf}
+use Rattle.host.specs.Record.{soundOf}
+use Rattle.update.specs.declared.ListAnswer.the-variants.{Listed, Refused}
+use Rattle.update.specs.Update.{listNumbers, listSize, writesOf, Sending, sendAnswer, sendOf, updating, command}
 use Rattle.update.specs.BoundLaws.{bus-most, writes-few, size-most}
 use Rattle.faults.specs.declared.Answer as faults
 use Rattle.faults.specs.Faults.{answerNumbers, faultsAnswer}
-use Rattle.history.specs.declared.Request as requests
-use Rattle.history.specs.Step.{callNumbers}
-use Rattle.text.specs.Text.{addressText, decimalText, bytesText}
-use Rattle.text.specs.TextLaws.{address-length, decimal-length, bytes-length}
-use Rattle.script.specs.declared.command.ListCall as lists
-use Rattle.script.specs.declared.command.Command as commands
+use Rattle.history.specs.declared.World.{World}
+use Rattle.history.specs.Step.{callNumbers, sendStep, stepOf}
+use Rattle.text.specs.Text.{addressText, bytesText}
+use Rattle.text.specs.TextLaws.{address-length, bytes-length}
+use Rattle.script.specs.declared.command.Command.{Command}
+use Rattle.script.specs.declared.command.Command.the-variants as commands
+use Rattle.script.specs.declared.command.Lent as lents
+use Rattle.script.specs.declared.command.Lent.the-variants.{Nothing, Word, Room}
 use Rattle.script.specs.Words.{wordAt}
 use Rattle.script.specs.Bytes.{bytesOf}
-use Rattle.script.specs.Commands.{commandOf}
+use Rattle.script.specs.Lines.{commandOf}
+use Rattle.script.specs.LineLaws.{BufferFits, Fits, fits}
 use Rattle.replies.specs.declared.Reply.{Reply}
-use Rattle.replies.specs.declared.Reply.the-variants.{Bad, Differs}
-use Rattle.session.specs.declared.run.Session.{Session}
-use Rattle.replies.specs.Replies.{valueText, numbersText, lentText, differsWord, replyText, replyLine}
-use Rattle.replies.specs.ReplyLaws.{number-alone, number-value, number-values}
-use Rattle.session.specs.Run.{plainly, numbered, openBy, withWorld, callOf, plainCall, listCall, listRan, feedRan, behindBack, differsAt, compareFrom, compared, ranBy, runOf, shownOf}
+use Rattle.replies.specs.declared.Reply.the-variants.{Bad, Numbers, Lent, Bytes, Same, Differs}
+use Rattle.replies.specs.Replies.{numbersText, lentText, differsWord, replyText, replyLine}
+use Rattle.replies.specs.ReplyLaws.{numbers-most, numbers-within, first-within}
+use Rattle.session.specs.declared.Session.{Session}
+use Rattle.session.specs.Run.{Plain, Words, alone, answered, numbered, openEffect, stepEffect, callEffect, feedEffect, faultsEffect, shownBytes, behindBack, compared, lentOf, effectOf, runOf}
 use Rattle.session.specs.Play.{freshBuffer, longestLine, printed}
+use Rattle.session.specs.CheckLaws.{compared-plain}
 
 -- ---- answers
 
-value-length : (k v : ℕ) → v < 10 ^ suc k → length (valueText v) ≤ suc (suc k)
-unfolding valueText
-value-length k v h = omega (arith, decimal-length k v h)
-
 alone-most : (n : ℕ) → n < 100 → length (numbersText (n ∷ [])) ≤ 9
-alone-most n h = omega (arith, ap length (number-alone n), decimal-length 1 n h)
+alone-most n h = omega (arith, numbers-most 1 n [] [] h tt)
 
 value-most : (n v : ℕ) → n < 100 → v < 10000 → length (numbersText (n ∷ v ∷ [])) ≤ 9
-value-most n v hn hv =
-    omega (arith, ap length (number-value n v), length-append (decimalText n) (valueText v), decimal-length 1 n hn, value-length 3 v hv)
+value-most n v hn hv = omega (arith, numbers-most 1 n (3 ∷ []) (v ∷ []) hn (hv, tt))
 
 values-most : (n v w : ℕ) → n < 10 → v < 1000 → w < 1000 → length (numbersText (n ∷ v ∷ w ∷ [])) ≤ 9
-values-most n v w hn hv hw =
-    omega (
-      arith,
-      ap length (number-values n v w),
-      length-append (decimalText n) (valueText v ++ valueText w),
-      length-append (valueText v) (valueText w),
-      decimal-length 0 n hn,
-      value-length 2 v hv,
-      value-length 2 w hw,
-    )
+values-most n v w hn hv hw = numbers-most 0 n (2 ∷ 2 ∷ []) (v ∷ w ∷ []) hn (hv, (hw, tt))
+
+held-most : (l : List ℕ) → length (numbersText l) ≤ 9 → length (numbersText (numbersIn (numbersOf l))) ≤ 9
+held-most l h = omega (arith, numbers-within l)
 
 refusal-small : (r : Refusal) → refusalNumber r < 100
 refusal-small Member = omega arith
@@ -77,110 +73,122 @@ refusal-small ListSizes = omega arith
 refusal-small FaultLength = omega arith
 refusal-small Unsound = omega arith
 
-setting-most : (answer : answers.Answer) → length (numbersText (answerNumber answer ∷ [])) ≤ 9
-setting-most answers.the-variants.Accepted = alone-most 0 (omega arith)
-setting-most (answers.the-variants.Refused r) = alone-most (refusalNumber r) (refusal-small r)
+-- n and t have three digits at most, and what a buffer that is too short is answered is no longer
+record Brief (x : Sending) : Type 0 where
+  writes : length (x .writes) < 1000
+  bytes : busBytes (x .writes) < 1000
+  short : length (numbersText (listNumbers (x .short))) ≤ 9
 
-update-most : (r : Record) (size : ℕ) → length (numbersText (listNumbers (updateAnswer r size))) ≤ 9
-unfolding updateAnswer
-update-most r size =
-    go (soundOf r) (leb (listSize (writesOf r)) size) _ _ _
-    (λ e. omega (arith, bus-most r e, writes-few r e)) (λ e. omega (arith, bus-most r e)) (λ e. omega (arith, size-most r e))
+send-most : (r : Record) (x : Sending) (size : ℕ) → (soundOf r ≡ true → Brief x) → length (numbersText (listNumbers (sendAnswer r x size))) ≤ 9
+unfolding sendAnswer
+send-most r x size h = go (soundOf r) (leb (listSize (x .writes)) size) h
   where
-    go : (b c : Bool) (n t needed : ℕ) → (b ≡ true → n < 1000) → (b ≡ true → t < 1000) → (b ≡ true → needed < 10000) →
-        length (numbersText (listNumbers (cond b (cond c (Listed n t) (Short needed)) (Refused Unsound)))) ≤ 9
-    go true true n t needed hn ht hk = values-most 0 n t (omega arith) (hn refl) (ht refl)
-    go true false n t needed hn ht hk = value-most (refusalNumber BufferShort) needed (omega arith) (hk refl)
-    go false c n t needed hn ht hk = alone-most (refusalNumber Unsound) (omega arith)
+    go : (b c : Bool) → (b ≡ true → Brief x) →
+        length (numbersText (listNumbers (cond b (cond c (Listed (length (x .writes)) (busBytes (x .writes))) (x .short)) (Refused Unsound)))) ≤ 9
+    go true true brief = values-most 0 (length (x .writes)) (busBytes (x .writes)) (omega arith) (brief refl .writes) (brief refl .bytes)
+    go true false brief = brief refl .short
+    go false c brief = alone-most (refusalNumber Unsound) (omega arith)
 
-command-most : (r : Record) (size : ℕ) → length (numbersText (listNumbers (commandAnswer r size))) ≤ 9
-unfolding commandAnswer
-command-most r size = go (soundOf r) (leb 9 size)
-  where
-    go : (b c : Bool) → length (numbersText (listNumbers (cond b (cond c (Listed 1 3) (Refused BufferShort)) (Refused Unsound)))) ≤ 9
-    go true true = values-most 0 1 3 (omega arith) (omega arith) (omega arith)
-    go true false = alone-most (refusalNumber BufferShort) (omega arith)
-    go false c = alone-most (refusalNumber Unsound) (omega arith)
+update-brief : (r : Record) → soundOf r ≡ true → Brief (updating r)
+update-brief r e = record {
+  writes = omega (arith, bus-most r e, writes-few r e);
+  bytes = omega (arith, bus-most r e);
+  short = value-most (refusalNumber BufferShort) (listSize (writesOf r)) (omega arith) (omega (arith, size-most r e));
+}
 
-call-most : (s : Session) (q : requests.Request) (lent : List ℕ) → length (numbersText (callNumbers (callOf s q lent .answer))) ≤ 9
-unfolding callOf withWorld updateOf chipResetOf
-call-most s (requests.the-variants.Register a v) lent = setting-most (registerOf (s .world .state) a v .answer)
-call-most s (requests.the-variants.Lamp l k v) lent = setting-most (lampOf (s .world .state) l k v .answer)
-call-most s (requests.the-variants.Group l k g) lent = setting-most (groupOf (s .world .state) l k g .answer)
-call-most s (requests.the-variants.Switch l k x) lent = setting-most (switchOf (s .world .state) l k x .answer)
-call-most s requests.the-variants.Scene lent = setting-most (sceneOf (s .world .state) lent .answer)
-call-most s requests.the-variants.Reset lent = command-most (s .world .state) (length lent)
-call-most s requests.the-variants.PowerLost lent = setting-most (powerLostOf (s .world .state) .answer)
-call-most s requests.the-variants.Update lent = update-most (s .world .state) (length lent)
+command-brief : (a v : ℕ) (image : List ℕ) → Brief (command a v image)
+command-brief a v image = record { writes = omega arith; bytes = omega arith; short = alone-most (refusalNumber BufferShort) (omega arith) }
 
-list-most : (s : Session) (k : lists.ListCall) (lent : List ℕ) → length (numbersText (callNumbers (listCall s k lent .answer))) ≤ 9
-unfolding listCall withWorld clearOf
-list-most s lists.the-variants.Update lent = call-most s requests.the-variants.Update lent
-list-most s lists.the-variants.Reset lent = call-most s requests.the-variants.Reset lent
-list-most s lists.the-variants.ClearOpens lent = command-most (s .world .state) (length lent)
-list-most s lists.the-variants.ClearShorts lent = command-most (s .world .state) (length lent)
+update-most : (w : World) (lent : List ℕ) → length (numbersText (callNumbers (stepOf w Update lent .answer))) ≤ 9
+unfolding sendOf
+update-most w lent = send-most (w .host) (updating (w .host)) (length lent) (update-brief (w .host))
 
-read-most : (answer : faults.Answer) → length (numbersText (answerNumbers answer)) ≤ 9
+command-most : (w : World) (a v : ℕ) (image lent : List ℕ) → length (numbersText (callNumbers (sendStep w (command a v image) lent .answer))) ≤ 9
+unfolding sendOf
+command-most w a v image lent = send-most (w .host) (command a v image) (length lent) (λ e. command-brief a v image)
+
+faults-most : (answer : faults.Answer) → length (numbersText (answerNumbers answer)) ≤ 9
 unfolding answerNumbers
-read-most (faults.the-variants.Read opens shorts) = values-most 0 (cond opens 1 0) (cond shorts 1 0) (omega arith) (bit opens) (bit shorts)
+faults-most (faults.the-variants.Read o s) = values-most 0 _ _ (omega arith) (digit o) (digit s)
   where
-    bit : (b : Bool) → cond b 1 0 < 1000
-    bit true = omega arith
-    bit false = omega arith
-read-most (faults.the-variants.Refused r) = alone-most (refusalNumber r) (refusal-small r)
+    digit : (b : Bool) → cond b 1 0 < 1000
+    digit true = omega arith
+    digit false = omega arith
+faults-most (faults.the-variants.Refused r) = alone-most (refusalNumber r) (refusal-small r)
+
+-- ---- replies
+
+-- the numbers that stand before a buffer are no longer
+ShortLent : Reply → Type 0
+ShortLent Bad = 0 ≤ 0
+ShortLent (Numbers n) = 0 ≤ 0
+ShortLent (Lent n) = length (numbersText (numbersIn n)) ≤ 9
+ShortLent Bytes = 0 ≤ 0
+ShortLent Same = 0 ≤ 0
+ShortLent (Differs a) = 0 ≤ 0
+
+shown-most : (x : List ℕ) → length x ≤ 4096 → length (bytesText x) ≤ 8192
+shown-most x h = bytes-length 8192 x (omega arith) (omega arith)
+
+words-most : (n : numbers.Numbers) → Words (Numbers n) → length (numbersText (numbersIn n)) ≤ 104
+unfolding Words numbersIn
+words-most n h =
+    omega (
+      arith,
+      first-within (n .count) (n .number ∷ n .first ∷ n .second ∷ n .third ∷ n .fourth ∷ []),
+      numbers-most 19 (n .number) (19 ∷ 19 ∷ 19 ∷ 19 ∷ []) (n .first ∷ n .second ∷ n .third ∷ n .fourth ∷ []) (omega arith)
+          (omega arith, (omega arith, (omega arith, (omega arith, tt)))),
+    )
+
+reply-most : (r : Reply) (x : List ℕ) → length x ≤ 4096 → Words r → ShortLent r → length (replyText r x) ≤ 8202
+unfolding replyText ShortLent lentText
+reply-most Bad x h w s = omega arith
+reply-most (Numbers n) x h w s = omega (arith, words-most n w)
+reply-most (Lent n) x h w s = omega (arith, length-append (numbersText (numbersIn n)) (0x20 ∷ bytesText x), shown-most x h)
+reply-most Bytes x h w s = omega (arith, shown-most x h)
+reply-most Same x h w s = omega arith
+reply-most (Differs a) x h w s = omega (arith, length-append differsWord (addressText a), address-length a)
 
 -- ---- lines
 
-shown-most : (b : List ℕ) → length b ≤ 4096 → length (bytesText b) ≤ 8192
-shown-most b h = bytes-length 8192 b (omega arith) (omega arith)
+plain-short : (r : Reply) → Plain r → ShortLent r
+unfolding Plain ShortLent
+plain-short Bad p = omega arith
+plain-short (Numbers n) p = omega arith
+plain-short (Lent n) p = absurd (omega arith)
+plain-short Bytes p = omega arith
+plain-short Same p = omega arith
+plain-short (Differs a) p = omega arith
 
-lent-most : (ns b : List ℕ) → length (numbersText ns) ≤ 9 → length b ≤ 4096 → length (numbersText ns ++ lentText b) ≤ 8202
-unfolding lentText
-lent-most ns b h hb = omega (arith, length-append (numbersText ns) (0x20 ∷ bytesText b), shown-most b hb)
+call-short : (w : World) (q : Request) (lent : lents.Lent) (bytes x : List ℕ) (s : Session) → BufferFits q lent →
+    ShortLent (answered lent (numbersOf (callNumbers (stepOf w q bytes .answer))) x s .reply)
+unfolding BufferFits answered alone ShortLent
+call-short w q Nothing bytes x s f = omega arith
+call-short w q (Word n) bytes x s f = omega arith
+call-short w (Set q) (Room n) bytes x s f = absurd (omega arith)
+call-short w Reset (Room n) bytes x s f = held-most _ (command-most w 0x0A9 0xFF _ bytes)
+call-short w PowerLost (Room n) bytes x s f = absurd (omega arith)
+call-short w Update (Room n) bytes x s f = held-most _ (update-most w bytes)
 
-compare-most : (m : ℕ) (x y : List ℕ) (a n : ℕ) (b : List ℕ) → length (replyText (compareFrom m x y a n) b) ≤ 11
-unfolding compareFrom replyText
-compare-most m x y a zero b = omega arith
-compare-most m x y a (suc n) b = go (differsAt m a (getD x a 0) (getD y a 0)) (compare-most m x y (suc a) n b)
-  where
-    go : (t : Bool) → length (replyText (compareFrom m x y (suc a) n) b) ≤ 11 →
-        length (replyText (elim t [ true ↦ Differs a | false ↦ compareFrom m x y (suc a) n ]) b) ≤ 11
-    go true h = omega (arith, length-append differsWord (addressText a), address-length a)
-    go false h = h
+line-short : (s : Session) (c : Command) (l b : List ℕ) → Fits l c → ShortLent (effectOf s c l b .reply)
+unfolding effectOf openEffect callEffect stepEffect feedEffect faultsEffect shownBytes behindBack numbered alone answered Fits ShortLent
+line-short s commands.Bad l b f = omega arith
+line-short s (commands.Open m bus p) l b f = omega arith
+line-short s (commands.Call q lent) l b f = call-short (s .world) q lent (lentOf lent l b) _ _ (f .1)
+line-short s (commands.ClearOpens n) l b f = held-most _ (command-most (s .world) 0x0A7 0x0F _ (take n b))
+line-short s (commands.ClearShorts n) l b f = held-most _ (command-most (s .world) 0x0A8 0x0F _ (take n b))
+line-short s (commands.Feed k) l b f = omega arith
+line-short s (commands.Faults m k n) l b f = held-most _ (faults-most (faultsAnswer m (bytesOf (wordAt l k)) (take n b)))
+line-short s (commands.Show p) l b f = omega arith
+line-short s (commands.Poke p a v) l b f = omega arith
+line-short s (commands.Header e v) l b f = omega arith
+line-short s commands.Check l b f = plain-short (compared s) (compared-plain s)
 
-check-most : (s : Session) (b : List ℕ) → length (replyText (compared s) b) ≤ 8202
-unfolding compared replyText
-check-most s b = go (s .valid) _ (compare-most (s .ledger .member) (s .world .chip .registers) (s .ledger .bytes) 0 908 b)
-  where
-    go : (t : Bool) (r : Reply) → length (replyText r b) ≤ 11 → length (replyText (cond t r Bad) b) ≤ 8202
-    go true r h = omega arith
-    go false r h = omega arith
-
-reply-most : (s : Session) (c : commands.Command) (l b x : List ℕ) → length x ≤ 4096 → length (replyText (ranBy s c l b .reply) x) ≤ 8202
-unfolding ranBy openBy plainly numbered plainCall listRan feedRan behindBack replyText
-reply-most s commands.the-variants.Bad l b x h = omega arith
-reply-most s (commands.the-variants.Open m bus p) l b x h = go (openAnswer m bus p)
-  where
-    go : (a : answers.Answer) → length (replyText (openBy a s m bus p .reply) x) ≤ 8202
-    go answers.the-variants.Accepted = omega (arith, setting-most answers.the-variants.Accepted)
-    go (answers.the-variants.Refused r) = omega (arith, setting-most (answers.the-variants.Refused r))
-reply-most s (commands.the-variants.Setting q) l b x h = omega (arith, call-most s q b)
-reply-most s commands.the-variants.Scene l b x h = omega (arith, call-most s requests.the-variants.Scene (bytesOf (wordAt l 1)))
-reply-most s (commands.the-variants.List k n) l b x h = lent-most (callNumbers (listCall s k (take n b) .answer)) x (list-most s k (take n b)) h
-reply-most s commands.the-variants.Power l b x h = omega (arith, call-most s requests.the-variants.PowerLost b)
-reply-most s commands.the-variants.Feed l b x h = omega (arith, setting-most (feedOf (s .world .chip) (bytesOf (wordAt l 1)) .answer))
-reply-most s (commands.the-variants.Faults m n) l b x h =
-    let answer = faultsAnswer m (bytesOf (wordAt l 2)) (take n b) in
-    lent-most (answerNumbers answer) x (read-most answer) h
-reply-most s (commands.the-variants.Show p) l b x h = omega (arith, shown-most x h)
-reply-most s (commands.the-variants.Poke p a v) l b x h = omega (arith, setting-most answers.the-variants.Accepted)
-reply-most s (commands.the-variants.Header e v) l b x h = omega (arith, setting-most answers.the-variants.Accepted)
-reply-most s commands.the-variants.Check l b x h = check-most s x
-
--- of a line that shows no more than the longest buffer; `play` promises it of every line
-pub printed-most : (s : Session) (l : List ℕ) → length (shownOf s l freshBuffer) ≤ 4096 → length (printed s l) ≤ longestLine
+-- of a line that shows no more than the longest buffer, and whose numbers are words; `play` promises both of every line
+pub printed-most : (s : Session) (l : List ℕ) → length (runOf s l freshBuffer .shown) ≤ 4096 → Words (runOf s l freshBuffer .reply) →
+    length (printed s l) ≤ longestLine
 unfolding printed runOf replyLine
-printed-most s l h =
-    let x = shownOf s l freshBuffer in
-    let t = replyText (ranBy s (commandOf l) l freshBuffer .reply) x in
-    omega (arith, length-append t (0x0A ∷ []), reply-most s (commandOf l) l freshBuffer x h)
+printed-most s l h w =
+    let e = effectOf s (commandOf l) l freshBuffer in
+    let short = line-short s (commandOf l) l freshBuffer (fits l (commandOf l) (commandOf l) refl refl) in
+    omega (arith, length-append (replyText (e .reply) (e .shown)) (0x0A ∷ []), reply-most (e .reply) (e .shown) h w short)

@@ -1,155 +1,191 @@
--- A call of a script, and all that it changes: the table's middle column. s is the session, that is the record and the chip that the
+-- A line of a script, and all that it does: the table's middle column. s is the session, that is the record and the chip that the
 -- script plays on with their ledger; l the line, b the buffer, of which the first n bytes are lent.
 -- Assumes nothing.
+use mathlib.Core.Path.{_≡_}
 use mathlib.Core.Bool.{Bool, true, false, cond, not, _&&_}
-use mathlib.Core.List.{List, []}
-use Prim.Native.Nat.{ℕ, zero, suc}
+use mathlib.Core.List.{List, [], _∷_}
+use Prim.Native.Nat.{ℕ, zero, suc, _^_, _≤_, _<_}
 use lib.Dec.{eqb}
 use lib.ListN.{length, getD, take, set}
 use Rattle.map.specs.Map.{writableOf}
-use Rattle.map.specs.Refusals.{openAnswer}
-use Rattle.map.specs.declared.refusals.Answer as answers
-use Rattle.host.specs.declared.Record.{Record}
-use Rattle.host.specs.Record.{openOf}
-use Rattle.chip.specs.declared.Chip.{Chip}
-use Rattle.chip.specs.Chip.{atResetOf, feedOf}
-use Rattle.update.specs.Update.{clearOpensBuffer, clearShortsBuffer}
-use Rattle.faults.specs.Faults.{faultsAnswer, faultsResult}
+use Rattle.map.specs.declared.refusals.Answer.{Answer}
+use Rattle.map.specs.declared.refusals.Answer.the-variants.{Accepted}
+use Rattle.map.specs.declared.refusals.Numbers as numbers
+use Rattle.map.specs.Refusals.{answerNumber, numbersOf, openAnswer, opens}
+use Rattle.calls.specs.declared.Request.{Request}
+use Rattle.host.specs.declared.Header.{Header}
+use Rattle.host.specs.Record.{recordOf}
+use Rattle.chip.specs.declared.Chip as chips
+use Rattle.chip.specs.Chip.{chipOf, feedOf}
+use Rattle.faults.specs.Faults.{answerNumbers, faultsAnswer, faultsResult}
 use Rattle.history.specs.declared.World.{World}
-use Rattle.history.specs.declared.Stepped.{Stepped}
-use Rattle.history.specs.declared.Request.{Request}
-use Rattle.history.specs.declared.Request.the-variants as requests
-use Rattle.history.specs.declared.CallAnswer.the-variants.{Setting}
-use Rattle.history.specs.Step.{stepOf, lentAfter, clearOpensStep, clearShortsStep}
-use Rattle.history.specs.Ledger.{openedLedger, enteredOf}
+use Rattle.history.specs.Step.{Step, callNumbers, stepOf, clearOpensStep, clearShortsStep}
+use Rattle.history.specs.Ledger.{toldOf, openedLedger, enteredOf}
+use Rattle.history.specs.History.{start}
+use Rattle.script.specs.declared.command.Command.{Command}
+use Rattle.script.specs.declared.command.Command.the-variants as commands
+use Rattle.script.specs.declared.command.Lent as lents
+use Rattle.script.specs.declared.command.Lent.the-variants.{Nothing, Word, Room}
+use Rattle.script.specs.declared.command.Part.{Part}
+use Rattle.script.specs.declared.command.Part.the-variants.{Settings, Image, Chip}
+use Rattle.script.specs.declared.command.Entry.{Entry}
+use Rattle.script.specs.declared.command.Entry.the-variants.{Member, Bus, Pins}
 use Rattle.script.specs.Words.{wordAt}
 use Rattle.script.specs.Bytes.{bytesOf}
-use Rattle.script.specs.Commands.{commandOf}
-use Rattle.script.specs.declared.keywords.Part as parts
-use Rattle.script.specs.declared.keywords.Entry as entries
-use Rattle.script.specs.declared.command.ListCall as lists
-use Rattle.script.specs.declared.command.Command as commands
+use Rattle.script.specs.Lines.{commandOf}
 use Rattle.replies.specs.declared.Reply.{Reply}
-use Rattle.replies.specs.declared.Reply.the-variants.{Bad, Answered, Lent, Read, Bytes, Same, Differs}
-use Rattle.session.specs.declared.run.Session.{Session}
-use Rattle.session.specs.declared.run.Called.{Called}
-use Rattle.session.specs.declared.run.Ran.{Ran}
+use Rattle.replies.specs.declared.Reply.the-variants.{Bad, Numbers, Lent, Bytes, Same, Differs}
+use Rattle.session.specs.declared.Session.{Session}
+use Rattle.session.specs.declared.outcomes.Outcome.{Outcome}
 
--- a call that shows no buffer
-unfoldable pub plainly : Reply → Session → Ran
-plainly reply s = record { reply = reply; room = 0; session = s }
+-- ---- What a line does
+
+-- Its reply, the bytes of the buffer that it shows, and the session after it.
+pub record Effect : Type 0 where
+  pub reply : Reply
+  pub shown : List ℕ
+  pub session : Session
+
+-- what the program gives back of a line, with the buffer as it then is
+abbrev pub showing : Outcome → List ℕ → Effect
+showing x buffer = record { reply = x .reply; shown = take (x .shown) buffer; session = x .session }
+
+-- a reply that has no numbers
+unfoldable pub Plain : Reply → Type 0
+Plain Bad = 0 ≤ 0
+Plain (Numbers n) = 1 ≤ 0
+Plain (Lent n) = 1 ≤ 0
+Plain Bytes = 0 ≤ 0
+Plain Same = 0 ≤ 0
+Plain (Differs a) = 0 ≤ 0
+
+-- a number without a buffer is a machine's word
+unfoldable pub Words : Reply → Type 0
+Words Bad = 0 ≤ 0
+Words (Numbers n) = (n .number < 2 ^ 64) × (n .first < 2 ^ 64) × (n .second < 2 ^ 64) × (n .third < 2 ^ 64) × (n .fourth < 2 ^ 64)
+Words (Lent n) = 0 ≤ 0
+Words Bytes = 0 ≤ 0
+Words Same = 0 ≤ 0
+Words (Differs a) = 0 ≤ 0
+
+-- it is this effect, and the buffer has all that is shown
+pub record Does (x : Outcome) (buffer : List ℕ) (e : Effect) : Type 0 where
+  pub is : showing x buffer ≡ e
+  pub within : x .shown ≤ length buffer
+  pub words : Words (x .reply)
+
+-- a reply alone
+unfoldable pub alone : Reply → Session → Effect
+alone reply s = record { reply = reply; shown = []; session = s }
+
+-- the numbers of an answer; "A buffer of L bytes .. is lent .., and after the call ALL its L bytes are printed"
+unfoldable pub answered : lents.Lent → numbers.Numbers → List ℕ → Session → Effect
+answered Nothing n lent s = alone (Numbers n) s
+answered (Word k) n lent s = alone (Numbers n) s
+answered (Room k) n lent s = record { reply = Lent n; shown = lent; session = s }
 
 -- "`0` or number"
-unfoldable pub numbered : answers.Answer → Session → Ran
-numbered answer s = plainly (Answered (Setting answer)) s
+unfoldable pub numbered : Answer → Session → Effect
+numbered answer s = alone (Numbers (numbersOf (answerNumber answer ∷ []))) s
 
 -- ---- `open`
 
 -- "the host record is the new one and the chip model is at reset values of that member, bus, pins"
 unfoldable pub openedSession : ℕ → ℕ → ℕ → Session
-openedSession m b p = record {
-  world = record { state = openOf m b p .state; chip = atResetOf m b p .chip };
-  ledger = openedLedger m;
-  valid = true;
-}
+openedSession m bus p = record { world = start m bus p; ledger = openedLedger m; valid = true }
 
 -- "on acceptance .. a refusal leaves the script's record and chip as they were"
-unfoldable pub openBy : answers.Answer → Session → ℕ → ℕ → ℕ → Ran
-openBy answers.the-variants.Accepted s m b p = numbered answers.the-variants.Accepted (openedSession m b p)
-openBy (answers.the-variants.Refused r) s m b p = numbered (answers.the-variants.Refused r) s
+unfoldable pub openEffect : Session → ℕ → ℕ → ℕ → Effect
+openEffect s m bus p = numbered (openAnswer m bus p) (cond (opens m bus p) (openedSession m bus p) s)
 
 -- ---- Calls on the record, whose lists are fed at once
 
 -- "It runs the real calls on one host record and one chip model": both are the call's, the ledger stays
-unfoldable pub withWorld : Session → Stepped → Called
-withWorld s x = record { answer = x .answer; session = record { world = x .world; ledger = s .ledger; valid = s .valid } }
+unfoldable pub withWorld : Session → World → Session
+withWorld s w = record { world = w; ledger = s .ledger; valid = s .valid }
 
--- one call of the list of demand 3; "the ledger of the accepted settings" gets it, and takes it where it is one
-unfoldable pub callOf : Session → Request → List ℕ → Called
-callOf s q lent = withWorld (record { world = s .world; ledger = enteredOf (s .ledger) q lent; valid = s .valid }) (stepOf (s .world) q lent)
+-- any call: what it answers, and the record and the chip after it. "An Update, Reset or Clear prints its own answer"
+unfoldable pub stepEffect : Session → lents.Lent → Step → Effect
+stepEffect s lent x = answered lent (numbersOf (callNumbers (x .answer))) (x .lent) (withWorld s (x .world))
 
--- `register`, `lamp`, `group`, `switch`, `scene`, `power`: "`0` or number"
-unfoldable pub plainCall : Called → Ran
-plainCall x = plainly (Answered (x .answer)) (x .session)
+-- "the ledger of the accepted settings" is told of a call of the list of demand 3
+unfoldable pub told : Session → Request → List ℕ → Session
+told s q bytes = record { world = s .world; ledger = enteredOf (s .ledger) (toldOf q bytes); valid = s .valid }
 
--- `update L`, `reset L`, `clearopens L`, `clearshorts L`
-unfoldable pub listCall : Session → lists.ListCall → List ℕ → Called
-listCall s lists.the-variants.Update lent = callOf s requests.Update lent
-listCall s lists.the-variants.Reset lent = callOf s requests.Reset lent
-listCall s lists.the-variants.ClearOpens lent = withWorld s (clearOpensStep (s .world) lent)
-listCall s lists.the-variants.ClearShorts lent = withWorld s (clearShortsStep (s .world) lent)
+-- what is lent to it: nothing, the bytes of a word, or a buffer of so many
+unfoldable pub lentOf : lents.Lent → List ℕ → List ℕ → List ℕ
+lentOf Nothing l b = []
+lentOf (Word n) l b = bytesOf (wordAt l n)
+lentOf (Room n) l b = take n b
 
--- the bytes lent, after it: BUFFER
-unfoldable pub listLent : World → lists.ListCall → List ℕ → List ℕ
-listLent w lists.the-variants.Update lent = lentAfter w requests.Update lent
-listLent w lists.the-variants.Reset lent = lentAfter w requests.Reset lent
-listLent w lists.the-variants.ClearOpens lent = clearOpensBuffer (w .state) lent
-listLent w lists.the-variants.ClearShorts lent = clearShortsBuffer (w .state) lent
-
--- "An Update, Reset or Clear prints its own answer", the L bytes that are shown, and the record and chip after the call: "an accepted
--- list .. is fed to the chip model at once"
-unfoldable pub listRan : ℕ → Called → Ran
-listRan n x = record { reply = Lent (x .answer); room = n; session = x .session }
+-- such a call on the bytes that are lent
+unfoldable pub callEffect : Session → Request → lents.Lent → List ℕ → Effect
+callEffect s q lent bytes = stepEffect (told s q bytes) lent (stepOf (s .world) q bytes)
 
 -- ---- `feed`, `faults`
 
--- "the bytes are fed to the chip model only"
-unfoldable pub fedSession : Session → Chip → Session
-fedSession s c = record { world = record { state = s .world .state; chip = c }; ledger = s .ledger; valid = s .valid }
+-- "the bytes are fed to the chip model only": "`0` or `11` or `14`"
+unfoldable pub feedEffect : Session → List ℕ → Effect
+feedEffect s bytes =
+    numbered (feedOf (s .world .chip) bytes .answer)
+    (withWorld s (record { host = s .world .host; chip = feedOf (s .world .chip) bytes .chip }))
 
--- "`0` or `11` or `14`"
-unfoldable pub feedRan : Session → List ℕ → Ran
-feedRan s bytes = numbered (feedOf (s .world .chip) bytes .answer) (fedSession s (feedOf (s .world .chip) bytes .chip))
+-- "member, input bytes, result buffer of L bytes"
+unfoldable pub faultsEffect : Session → ℕ → List ℕ → List ℕ → Effect
+faultsEffect s m bytes result =
+    record { reply = Lent (numbersOf (answerNumbers (faultsAnswer m bytes result))); shown = faultsResult m bytes result; session = s }
 
 -- ---- `settings`, `image`, `chip`
 
 -- "the 908 bytes of the settings, of the chip image, of the chip model"
-unfoldable pub partBytes : Session → parts.Part → List ℕ
-partBytes s parts.the-variants.Settings = s .world .state .settings
-partBytes s parts.the-variants.Image = s .world .state .image
-partBytes s parts.the-variants.Chip = s .world .chip .registers
+unfoldable pub partBytes : World → Part → List ℕ
+partBytes w Settings = w .host .settings
+partBytes w Image = w .host .image
+partBytes w Chip = w .chip .registers
+
+-- "1,816 hex digits"
+unfoldable pub shownBytes : Session → List ℕ → Effect
+shownBytes s bytes = record { reply = Bytes; shown = bytes; session = s }
 
 -- ---- `poke`, `header`: "behind the calls' back"
 
--- "puts V at address A" of the settings or of the image
-unfoldable pub pokedRecord : Record → parts.Part → ℕ → ℕ → Record
-pokedRecord r parts.the-variants.Settings a v = record { member = r .member; bus = r .bus; pins = r .pins; settings = set (r .settings) a v; image = r .image }
-pokedRecord r parts.the-variants.Image a v = record { member = r .member; bus = r .bus; pins = r .pins; settings = r .settings; image = set (r .image) a v }
-pokedRecord r parts.the-variants.Chip a v = r
+-- "puts V at address A" of the settings, of the image or of the chip
+unfoldable pub poked : World → Part → ℕ → ℕ → World
+poked w Settings a v = record { host = recordOf (w .host .header) (set (w .host .settings) a v) (w .host .image); chip = w .chip }
+poked w Image a v = record { host = recordOf (w .host .header) (w .host .settings) (set (w .host .image) a v); chip = w .chip }
+poked w Chip a v = record { host = w .host; chip = chipOf (w .chip .member) (w .chip .bus) (w .chip .pins) (set (w .chip .registers) a v) }
 
--- "puts V at address A" of the chip
-unfoldable pub pokedChip : Chip → parts.Part → ℕ → ℕ → Chip
-pokedChip c parts.the-variants.Settings a v = c
-pokedChip c parts.the-variants.Image a v = c
-pokedChip c parts.the-variants.Chip a v = record { member = c .member; bus = c .bus; pins = c .pins; registers = set (c .registers) a v }
+-- "puts V (decimal, at most 255, else `?`) into the record"
+unfoldable pub headerWith : Header → Entry → ℕ → Header
+headerWith h Member v = record { member = v; bus = h .bus; pins = h .pins }
+headerWith h Bus v = record { member = h .member; bus = v; pins = h .pins }
+headerWith h Pins v = record { member = h .member; bus = h .bus; pins = v }
 
--- "puts V (decimal, at most 255, else `?`) into the record and into the chip"
-unfoldable pub headedRecord : Record → entries.Entry → ℕ → Record
-headedRecord r entries.the-variants.Member v = record { member = v; bus = r .bus; pins = r .pins; settings = r .settings; image = r .image }
-headedRecord r entries.the-variants.Bus v = record { member = r .member; bus = v; pins = r .pins; settings = r .settings; image = r .image }
-headedRecord r entries.the-variants.Pins v = record { member = r .member; bus = r .bus; pins = v; settings = r .settings; image = r .image }
+-- "and into the chip"
+unfoldable pub chipWith : chips.Chip → Entry → ℕ → chips.Chip
+chipWith c Member v = chipOf v (c .bus) (c .pins) (c .registers)
+chipWith c Bus v = chipOf (c .member) v (c .pins) (c .registers)
+chipWith c Pins v = chipOf (c .member) (c .bus) v (c .registers)
 
--- the same of the chip
-unfoldable pub headedChip : Chip → entries.Entry → ℕ → Chip
-headedChip c entries.the-variants.Member v = record { member = v; bus = c .bus; pins = c .pins; registers = c .registers }
-headedChip c entries.the-variants.Bus v = record { member = c .member; bus = v; pins = c .pins; registers = c .registers }
-headedChip c entries.the-variants.Pins v = record { member = c .member; bus = c .bus; pins = v; registers = c .registers }
+unfoldable pub withEntry : World → Entry → ℕ → World
+withEntry w e v = record { host = recordOf (headerWith (w .host .header) e v) (w .host .settings) (w .host .image); chip = chipWith (w .chip) e v }
 
 -- "`poke` and `header` void the ledger"
-unfoldable pub behindBack : Session → Record → Chip → Ran
-behindBack s r c = numbered answers.the-variants.Accepted (record { world = record { state = r; chip = c }; ledger = s .ledger; valid = false })
+unfoldable pub behindBack : Session → World → Effect
+behindBack s w = numbered Accepted (record { world = w; ledger = s .ledger; valid = false })
 
 -- ---- `check`
 
--- "compares every writable register of the chip model with the ledger": m is the ledger's member
-unfoldable pub differsAt : ℕ → ℕ → ℕ → ℕ → Bool
-differsAt m a held asked = not (eqb held asked) && writableOf m a
+-- "compares every writable register of the chip model with the ledger": whether the byte that the chip holds is another than the ledger's, of
+-- a register that the ledger's member m can write
+unfoldable pub chipDiffers : ℕ → ℕ → ℕ → ℕ → Bool
+chipDiffers m a held asked = not (eqb held asked) && writableOf m a
 
 -- "`same`, or `differs A` with the lowest differing address", among the n addresses from a on
 unfoldable pub compareFrom : ℕ → List ℕ → List ℕ → ℕ → ℕ → Reply
 compareFrom m registers ledger a zero = Same
 compareFrom m registers ledger a (suc n) =
-    elim (differsAt m a (getD registers a 0) (getD ledger a 0)) [ true ↦ Differs a | false ↦ compareFrom m registers ledger (suc a) n ]
+    elim (chipDiffers m a (getD registers a 0) (getD ledger a 0)) [ true ↦ Differs a | false ↦ compareFrom m registers ledger (suc a) n ]
 
 -- "`check` then prints `?` until the next accepted `open`"
 unfoldable pub compared : Session → Reply
@@ -157,40 +193,20 @@ compared s = cond (s .valid) (compareFrom (s .ledger .member) (s .world .chip .r
 
 -- ---- A line
 
--- the table's middle column, a line of it each: the reply, how many bytes it shows, and the session after it
-unfoldable pub ranBy : Session → commands.Command → List ℕ → List ℕ → Ran
-ranBy s commands.the-variants.Bad l b = plainly Bad s
-ranBy s (commands.the-variants.Open m bus p) l b = openBy (openAnswer m bus p) s m bus p
-ranBy s (commands.the-variants.Setting q) l b = plainCall (callOf s q b)
-ranBy s commands.the-variants.Scene l b = plainCall (callOf s requests.Scene (bytesOf (wordAt l 1)))
-ranBy s (commands.the-variants.List k n) l b = listRan n (listCall s k (take n b))
-ranBy s commands.the-variants.Power l b = plainCall (callOf s requests.PowerLost b)
-ranBy s commands.the-variants.Feed l b = feedRan s (bytesOf (wordAt l 1))
-ranBy s (commands.the-variants.Faults m n) l b = record { reply = Read (faultsAnswer m (bytesOf (wordAt l 2)) (take n b)); room = n; session = s }
-ranBy s (commands.the-variants.Show p) l b = record { reply = Bytes; room = length (partBytes s p); session = s }
-ranBy s (commands.the-variants.Poke p a v) l b = behindBack s (pokedRecord (s .world .state) p a v) (pokedChip (s .world .chip) p a v)
-ranBy s (commands.the-variants.Header e v) l b = behindBack s (headedRecord (s .world .state) e v) (headedChip (s .world .chip) e v)
-ranBy s commands.the-variants.Check l b = plainly (compared s) s
-
--- BUFFER: the first n bytes, as the call leaves them; the 908 bytes of `settings`, `image`, `chip`; of any other line none
-unfoldable pub shownBy : Session → commands.Command → List ℕ → List ℕ → List ℕ
-shownBy s commands.the-variants.Bad l b = []
-shownBy s (commands.the-variants.Open m bus p) l b = []
-shownBy s (commands.the-variants.Setting q) l b = []
-shownBy s commands.the-variants.Scene l b = []
-shownBy s (commands.the-variants.List k n) l b = listLent (s .world) k (take n b)
-shownBy s commands.the-variants.Power l b = []
-shownBy s commands.the-variants.Feed l b = []
-shownBy s (commands.the-variants.Faults m n) l b = faultsResult m (bytesOf (wordAt l 2)) (take n b)
-shownBy s (commands.the-variants.Show p) l b = partBytes s p
-shownBy s (commands.the-variants.Poke p a v) l b = []
-shownBy s (commands.the-variants.Header e v) l b = []
-shownBy s commands.the-variants.Check l b = []
+-- the table's middle column, a line of it each
+unfoldable pub effectOf : Session → Command → List ℕ → List ℕ → Effect
+effectOf s commands.Bad l b = alone Bad s
+effectOf s (commands.Open m bus p) l b = openEffect s m bus p
+effectOf s (commands.Call q lent) l b = callEffect s q lent (lentOf lent l b)
+effectOf s (commands.ClearOpens n) l b = stepEffect s (Room n) (clearOpensStep (s .world) (take n b))
+effectOf s (commands.ClearShorts n) l b = stepEffect s (Room n) (clearShortsStep (s .world) (take n b))
+effectOf s (commands.Feed k) l b = feedEffect s (bytesOf (wordAt l k))
+effectOf s (commands.Faults m k n) l b = faultsEffect s m (bytesOf (wordAt l k)) (take n b)
+effectOf s (commands.Show p) l b = shownBytes s (partBytes (s .world) p)
+effectOf s (commands.Poke p a v) l b = behindBack s (poked (s .world) p a v)
+effectOf s (commands.Header e v) l b = behindBack s (withEntry (s .world) e v)
+effectOf s commands.Check l b = alone (compared s) s
 
 -- "Words are judged before the call": the line's command, run on the session
-unfoldable pub runOf : Session → List ℕ → List ℕ → Ran
-runOf s l b = ranBy s (commandOf l) l b
-
--- "after the call ALL its L bytes are printed": the bytes that the line's command shows
-unfoldable pub shownOf : Session → List ℕ → List ℕ → List ℕ
-shownOf s l b = shownBy s (commandOf l) l b
+unfoldable pub runOf : Session → List ℕ → List ℕ → Effect
+runOf s l b = effectOf s (commandOf l) l b

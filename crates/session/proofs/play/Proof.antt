@@ -1,11 +1,11 @@
 -- `session::play` meets its contract.
 -- Assumes nothing.
 use native.Mathlib.Omega.{arith}
-use lib.Seq.{length-take-le}
 use mathlib.Core.Path.{sym}
-use borrow.Author.Needs.{needs}
+use lib.Seq.{length-take-le}
 use Rattle.session.specs.Play.{freshBuffer}
-use Rattle.session.proofs.Playing.{played}
+use Rattle.session.proofs.Effects.{played}
+use borrow.Author.Needs.{needs}
 use Rattle.session.proofs.play.Statement.{statement}
 use Rattle.session.proofs.play.Tie as tie
 
@@ -19,7 +19,7 @@ array-share-prefix-buffer : tie.Need-array-share-prefix-buffer
 array-share-prefix-buffer c = search needs
 
 slice-aggregate-put-line : tie.Need-slice-aggregate-put-line
-slice-aggregate-put-line c = sym (length-take-le _ _ (omega arith))
+slice-aggregate-put-line c = sym (length-take-le _ _ (c .before .before .before .before .run .ensures .within))
 
 put-line-requires : tie.Need-put-line-requires
 put-line-requires c κs = search needs
@@ -29,7 +29,7 @@ same-length c = search needs
 
 returns : tie.Need-returns
 unfolding freshBuffer
-returns c = played _ _ _ _ _ _ _ _ (c .before .before .before .before .before .before .before .run .ensures) (c .before .before .put-line .ensures)
+returns c = played _ _ _ _ _ _ _ _ (c .before .before .before .before .before .before .before .run .kept .1 .1 .0) (c .before .before .before .before .before .before .before .run .ensures) (c .before .before .put-line .ensures)
 
 pub play-spec : {M : Type 1} → statement M
 play-spec =

@@ -1,0 +1,132 @@
+-- What a line does, over plain values: r is what the program gives back of it.
+-- Assumes nothing.
+use mathlib.Core.Path.{_≡_, refl, sym, ap, subst, _∙_}
+use mathlib.Core.Bool.{true}
+use mathlib.Core.List.{List, [], _++_}
+use Prim.Native.Nat.{ℕ, _≤_}
+use native.Mathlib.Omega.{arith}
+use lib.ListN.{length, take, drop, length-append, length-take}
+use lib.Seq.{take-length, take-append-le, take-at, length-take-le, length-front}
+use Rattle.map.specs.declared.refusals.Answer.{Answer}
+use Rattle.map.specs.declared.refusals.Answer.the-variants.{Accepted, Refused}
+use Rattle.map.specs.declared.refusals.Refusal.{Refusal}
+use Rattle.map.specs.declared.refusals.Numbers as numbers
+use Rattle.map.specs.Refusals.{numbersOf, openAnswer, opens}
+use Rattle.faults.specs.declared.Answer as faults
+use Rattle.faults.specs.Faults.{answerNumbers, faultsAnswer, faultsResult}
+use Rattle.calls.specs.declared.Request.{Request}
+use Rattle.host.specs.declared.Changed.{Changed}
+use Rattle.host.specs.Record.{openOf}
+use Rattle.chip.specs.declared.Opened.{Opened}
+use Rattle.chip.specs.declared.Fed.{Fed}
+use Rattle.chip.specs.Chip.{atResetOf, feedOf}
+use Rattle.history.specs.declared.World.{World}
+use Rattle.history.specs.declared.Stepped.{Stepped}
+use Rattle.history.specs.declared.Ledger.{Ledger}
+use Rattle.history.specs.Step.{Step, leaving, stepOf}
+use Rattle.history.specs.Ledger.{toldOf, openedLedger, enteredOf}
+use Rattle.script.specs.declared.command.Command.{Command}
+use Rattle.script.specs.declared.command.Lent as lents
+use Rattle.script.specs.declared.command.Lent.the-variants.{Room}
+use Rattle.script.specs.Lines.{commandOf}
+use Rattle.text.specs.Text.{Puts}
+use Rattle.text.specs.TextLaws.{puts-as}
+use Rattle.replies.specs.Replies.{replyLine}
+use Rattle.replies.specs.declared.Reply.{Reply}
+use Rattle.replies.specs.declared.Reply.the-variants.{Bad, Numbers, Lent, Bytes, Same, Differs}
+use Rattle.session.specs.declared.Session.{Session}
+use Rattle.session.specs.declared.outcomes.Outcome.{Outcome}
+use Rattle.session.specs.Run.{Effect, Does, Plain, Words, showing, answered, numbered, openedSession, openEffect, withWorld, stepEffect, told, callEffect, feedEffect, faultsEffect, shownBytes, effectOf, runOf}
+use Rattle.session.specs.Play.{freshBuffer, sessionAfter, printed, longestLine}
+use Rattle.session.specs.PlayLaws.{printed-most}
+use Rattle.session.proofs.Buffers.{whole}
+
+pub plain-words : (r : Reply) → Plain r → Words r
+unfolding Plain Words
+plain-words Bad p = omega arith
+plain-words (Numbers n) p = absurd (omega arith)
+plain-words (Lent n) p = omega arith
+plain-words Bytes p = omega arith
+plain-words Same p = omega arith
+plain-words (Differs a) p = omega arith
+
+-- ---- `open`
+
+pub opened-is : (m b p : ℕ) (x : Changed) (y : Opened) (g : Ledger) → x ≡ openOf m b p → y ≡ atResetOf m b p → g ≡ openedLedger m →
+    _≡_ {A = Session} (record { world = record { host = x .host; chip = y .chip }; ledger = g; valid = true }) (openedSession m b p)
+unfolding openedSession
+opened-is m b p x y g ex ey eg = rw (ex, ey, eg) refl
+
+pub open-accepted : (s t : Session) (m b p : ℕ) (a : Answer) → a ≡ openAnswer m b p → a ≡ Accepted → t ≡ openedSession m b p → openEffect s m b p ≡ numbered a t
+unfolding openEffect opens
+open-accepted s t m b p a ea et es = rw (← ea, et, es) refl
+
+pub open-refused : (s : Session) (m b p : ℕ) (a : Answer) (x : Refusal) → a ≡ openAnswer m b p → a ≡ Refused x → openEffect s m b p ≡ numbered a s
+unfolding openEffect opens
+open-refused s m b p a x ea et = rw (← ea, et) refl
+
+-- ---- a part of the buffer is lent, and the rest stands behind it
+
+pub does-front : (r : Outcome) (x y : List ℕ) (e : Effect) → Does r x e → Does r (x ++ y) e
+does-front r x y e d = record {
+  is = rw (take-append-le (r .shown) x y (d .within)) (d .is);
+  within = omega (arith, d .within, length-append x y);
+  words = d .words;
+}
+
+-- a call on the bytes that are lent: old before it, new after it
+pub call-does : (s : Session) (q : Request) (lent : lents.Lent) (old new : List ℕ) (g : Ledger) (x : Stepped) (r : Outcome) →
+    g ≡ enteredOf (s .ledger) (toldOf q old) → leaving x new ≡ stepOf (s .world) q old →
+    ((b : List ℕ) → length new ≤ length b →
+    Does r b (stepEffect (record { world = s .world; ledger = g; valid = s .valid }) lent (leaving x (take (length new) b)))) →
+    Does r new (callEffect s q lent old)
+unfolding callEffect told
+call-does s q lent old new g x r eg ex d = rw (← eg, ← ex) (rw (take-length new) at (d new (omega arith)))
+
+-- a call that shows the first n bytes of the buffer
+module _ (n : ℕ) (part old : List ℕ) (h : n ≤ 4096) (o : length old ≡ 4096) (e : length part ≡ length (take n old)) where
+  abbrev new : List ℕ
+  new = part ++ drop n old
+
+  front-does : (f : List ℕ → Effect) (r : Outcome) → ((b : List ℕ) → n ≤ length b → Does r b (f (take n b))) → Does r new (f part)
+  front-does f r d =
+      let lent : take n new ≡ part = take-at part (drop n old) n (e ∙ length-take-le n old (omega arith)) in
+      rw lent at (d new (omega (arith, length-front old part n e)))
+
+  pub clear-does : (s : Session) (x : Stepped) (y : Step) (r : Outcome) → leaving x part ≡ y →
+      ((b : List ℕ) → n ≤ length b → Does r b (stepEffect s (Room n) (leaving x (take n b)))) → Does r new (stepEffect s (Room n) y)
+  clear-does s x y r ex d = rw (← ex) (front-does (λ b. stepEffect s (Room n) (leaving x b)) r d)
+
+  -- the bytes w of the word are the given ones
+  pub faults-does : (s : Session) (m : ℕ) (given w : List ℕ) (answer : faults.Answer) (ns : numbers.Numbers) (r : Outcome) → given ≡ w →
+      answer ≡ faultsAnswer m given (take n old) → part ≡ faultsResult m given (take n old) → ns ≡ numbersOf (answerNumbers answer) →
+      ((b : List ℕ) → n ≤ length b → Does r b (answered (Room n) ns (take n b) s)) → Does r new (faultsEffect s m w (take n old))
+  unfolding answered faultsEffect
+  faults-does s m given w answer ns r eg ea er en d = rw (← eg, ← ea, ← er, ← en) (front-does (λ b. answered (Room n) ns b s) r d)
+
+-- ---- `settings`, `image`, `chip`
+
+pub shown-does : (old bytes new : List ℕ) (n : ℕ) (s : Session) → length bytes ≤ 4096 → length old ≡ 4096 → length new ≡ length old → Puts old 0 bytes new n →
+    Does (record { reply = Bytes; shown = n; session = s }) new (shownBytes s bytes)
+unfolding shownBytes Words
+shown-does old bytes new n s h o k p =
+    let w = whole old bytes new n (omega arith) p in
+    record { is = rw (w .1) refl; within = omega (arith, w .0); words = omega arith }
+
+-- ---- a line: b is the buffer before it, e after it
+
+pub ran : (s : Session) (l b e : List ℕ) (c d : Command) (r : Outcome) → c ≡ commandOf l → c ≡ d → Does r e (effectOf s d l b) → Does r e (runOf s l b)
+unfolding runOf
+ran s l b e c d r ec ed does = rw (← ec, ed) does
+
+-- the buffer is fresh before it
+pub played : (s : Session) (l e : List ℕ) (r : Outcome) (old new : List ℕ) (at n : ℕ) → length e ≡ 4096 → Does r e (runOf s l freshBuffer) →
+    Puts old at (replyLine (r .reply) (take (r .shown) e)) new n →
+    (r .session ≡ sessionAfter s l) × (Puts old at (printed s l) new n × (length (printed s l) ≤ longestLine))
+unfolding sessionAfter printed
+played s l e r old new at n h d p =
+    let line : replyLine (r .reply) (take (r .shown) e) ≡ printed s l = ap (λ (x : Effect). replyLine (x .reply) (x .shown)) (d .is) in
+    let shown : take (r .shown) e ≡ runOf s l freshBuffer .shown = ap (λ (x : Effect). x .shown) (d .is) in
+    let most : length (runOf s l freshBuffer .shown) ≤ 4096 = omega (arith, d .within, length-take (r .shown) e, ap length shown) in
+    let words : Words (runOf s l freshBuffer .reply) = subst Words (ap (λ (x : Effect). x .reply) (d .is)) (d .words) in
+    (ap (λ (x : Effect). x .session) (d .is), (puts-as old at _ _ new n line p, printed-most s l most words))
