@@ -3,7 +3,7 @@
 use mathlib.Core.Path.{_≡_, refl, sym, ap, _∙_}
 use mathlib.Core.Bool.{Bool, true, false, cond, _&&_}
 use mathlib.Core.List.{List, [], _∷_, _++_, append-assoc, append-nil}
-use Prim.Native.Nat.{ℕ, _+_, _<_, _≤_}
+use Prim.Native.Nat.{ℕ, _+_, _^_, _<_, _≤_}
 use native.Mathlib.Nat.{min-eq-left}
 use native.Mathlib.Omega.{arith}
 use borrow.Author.Tests.{eq-eqb}
@@ -16,16 +16,18 @@ use Rattle.map.specs.declared.refusals.Answer.{Answer}
 use Rattle.map.specs.declared.refusals.Answer as answers
 use Rattle.map.specs.declared.refusals.Refusal.{Refusal}
 use Rattle.map.specs.declared.refusals.Refusal.the-variants.{Unsound}
-use Rattle.map.specs.Refusals.{refusalNumber, answerNumber, accepted, openAnswer, opens}
-use Rattle.map.specs.RefusalLaws.{opens-member, opens-bus, opens-pins}
+use Rattle.map.specs.declared.refusals.Numbers.{Numbers}
+use Rattle.map.specs.Refusals.{refusalNumber, answerNumber, numbersOf, accepted, openAnswer, opens}
+use Rattle.map.specs.RefusalLaws.{answer-small, opens-member, opens-bus, opens-pins}
 use Rattle.map.specs.Map.{resetOf}
 use Rattle.map.specs.ListLaws.{table-length}
 use Rattle.map.specs.Images.{resetImage}
 use Rattle.burst.specs.Burst.{transactions}
 use Rattle.calls.specs.declared.Setting.{Setting}
 use Rattle.host.specs.declared.Header.{Header}
+use Rattle.host.specs.declared.Record.{Record}
 use Rattle.host.specs.declared.Changed.{Changed}
-use Rattle.host.specs.Record.{recordOf, opened, openHost, openOf, settingAnswer, putSetting, changedTo, settingOf, soundAnswer, powerLostOf}
+use Rattle.host.specs.Record.{recordOf, opened, openHost, openOf, settingAnswer, settingNumbers, putSetting, changedTo, settingOf, soundAnswer, powerLostOf}
 use Rattle.chip.specs.declared.Chip.{Chip}
 use Rattle.chip.specs.Chip.{chipOf, newChip, atResetOf, applyAll, feedAnswer, feedOf}
 use Rattle.capi.specs.Capi.{headerIn, settingsIn, imageIn, recordIn, recordBytes, chipIn, chipBytes, whenSized, settingNumber, settingBytes, chipNumber, chipAfter}
@@ -62,6 +64,16 @@ done : (bytes new : List ℕ) (x : Changed) (number : ℕ) → length bytes ≡ 
     new ≡ cond (accepted (x .answer)) (recordBytes (x .host)) bytes → Done bytes x number new
 unfolding settingNumber settingBytes whenSized
 done bytes new x number h en eb = (rw (record-sized bytes h) en, rw (record-sized bytes h) eb)
+
+-- the number of a setting's answer fits where it is handed on
+module _ (r : Record) (q : Setting) (lent : List ℕ) (answer : Answer) (n : Numbers) (ea : answer ≡ settingAnswer r q lent)
+    (en : n ≡ numbersOf (settingNumbers r q lent)) where
+  pub setting-number : n .number ≡ answerNumber answer
+  unfolding settingNumbers numbersOf
+  setting-number = ap (λ (x : Numbers). x .number) en ∙ ap answerNumber (sym ea)
+
+  pub number-fits : n .number < 2 ^ 32
+  number-fits = omega (arith, setting-number, answer-small answer)
 
 module _ (bytes : List ℕ) (h : length bytes ≡ 1819) where
   -- the settings, or the image, are stored where the call was accepted

@@ -58,8 +58,8 @@ pub fn set(bytes: &mut [u8], setting: Setting, lent: &[u8]) -> u32
     }
     let header = records::header(bytes);
     let answer = host::setting_answer(header, &bytes[3..911], &bytes[911..1819], setting, lent);
-    host::put_setting(answer, header, &mut bytes[3..911], setting, lent);
-    map::answer_number(answer) as u32
+    let numbers = host::put_setting(answer, header, &mut bytes[3..911], setting, lent);
+    numbers.number as u32
 }
 
 #[no_mangle]

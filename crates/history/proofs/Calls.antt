@@ -29,7 +29,7 @@ use Rattle.history.specs.LedgerLaws.{setting-enters}
 pub step-is : (w : World) (request x : Request) (lent : List ℕ) (s : Step) → request ≡ x → s ≡ stepOf w x lent → s ≡ stepOf w request lent
 step-is w request x lent s e t = t ∙ ap (λ (q : Request). stepOf w q lent) (sym e)
 
--- a call that answers a number alone
+-- a call that writes no list
 pub change-is : (s : Stepped) (x y : Changed) (c d : Chip) (lent : List ℕ) → ((l : List ℕ) → leaving s l ≡ changeStep x c l) → x ≡ y → c ≡ d →
     leaving s lent ≡ changeStep y d lent
 change-is s x y c d lent e u v = e lent ∙ ap₂ (λ (z : Changed) (k : Chip). changeStep z k lent) u v

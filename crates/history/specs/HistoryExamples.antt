@@ -5,8 +5,7 @@ use mathlib.Core.Bool.{true, false}
 use mathlib.Core.List.{List, [], _∷_, map}
 use Prim.Native.Nat.{ℕ}
 use lib.ListN.{getD, replicate}
-use Rattle.map.specs.declared.refusals.Answer.the-variants.{Accepted, Refused}
-use Rattle.map.specs.declared.refusals.Refusal.the-variants.{NoDot}
+use Rattle.map.specs.Refusals.{numbersIn, numbersOf}
 use Rattle.map.specs.Map.{linesOf, columnsOf, hasColumn, dotIn, isDot, numberIn, kindOf, addressOf, shiftOf, widthOf, dataMode, isWide, firstMasks, firstMask, pwmReserved, reservedAs, reservedOf, writableOf, firstReset, switchBytesOf, switchReset, currentReset, resetAs, resetOf}
 use Rattle.map.specs.Lists.{tableFrom, table}
 use Rattle.map.specs.Images.{okByte, imageOk, resetImage}
@@ -28,10 +27,10 @@ use Rattle.history.specs.Step.{callNumbers, listIn, stepOf, clearOpensSt
 
 -- "a definition states this paper's number and values for each case of the enum"
 call-answers : List CallAnswer
-call-answers = answers.Setting Accepted ∷ answers.Setting (Refused NoDot) ∷ answers.List (lists.Listed 3 9) ∷ answers.List (lists.Short 19) ∷ []
+call-answers = answers.Setting (numbersOf (6 ∷ [])) ∷ answers.List (lists.Listed 3 9) ∷ answers.List (lists.Short 19) ∷ []
 
-numbers-and-values : map callNumbers call-answers ≡ (0 ∷ []) ∷ (6 ∷ []) ∷ (0 ∷ 3 ∷ 9 ∷ []) ∷ (10 ∷ 19 ∷ []) ∷ []
-unfolding call-answers
+numbers-and-values : map (λ (x : CallAnswer). numbersIn (callNumbers x)) call-answers ≡ (6 ∷ []) ∷ (0 ∷ 3 ∷ 9 ∷ []) ∷ (10 ∷ 19 ∷ []) ∷ []
+unfolding call-answers numbersIn numbersOf
 numbers-and-values = refl
 
 -- the list of n = 1 and t = 3 is the first "4 + 2n + t" bytes of the buffer

@@ -1,10 +1,11 @@
 -- One call on a world, by the promises of the real calls and of Feed: document 01, "The ledger and whole lists". A world is a host's
 -- record, `host`, and its chip; `lent` is the bytes of a scene, or the buffer of a call that writes a list.
 -- Assumes nothing.
-use mathlib.Core.List.{List, [], _∷_}
+use mathlib.Core.List.{List}
 use Prim.Native.Nat.{ℕ, _+_, _*_, _≤_}
 use lib.ListN.{length, take}
-use Rattle.map.specs.Refusals.{answerNumber}
+use Rattle.map.specs.declared.refusals.Numbers.{Numbers}
+use Rattle.map.specs.Refusals.{numbersOf}
 use Rattle.calls.specs.declared.Request.{Request}
 use Rattle.calls.specs.declared.Request.the-variants.{Set, Reset, PowerLost, Update}
 use Rattle.host.specs.declared.Changed.{Changed}
@@ -21,11 +22,11 @@ use Rattle.history.specs.declared.Stepped.{Stepped}
 
 -- ---- Answers
 
--- "a definition states this paper's number and values for each case of the enum": a setting and Power lost answer a number alone, a
--- call that writes a list what the list's answer has
-abbrev pub callNumbers : answers.CallAnswer → List ℕ
-callNumbers (answers.the-variants.Setting answer) = answerNumber answer ∷ []
-callNumbers (answers.the-variants.List answer) = listNumbers answer
+-- "a definition states this paper's number and values for each case of the enum": a setting and Power lost answer those of their call
+-- (`settingNumbers` of host), a call that writes a list what the list's answer has
+abbrev pub callNumbers : answers.CallAnswer → Numbers
+callNumbers (answers.the-variants.Setting numbers) = numbers
+callNumbers (answers.the-variants.List answer) = numbersOf (listNumbers answer)
 
 -- ---- What the chip gets
 
@@ -57,10 +58,10 @@ pub record Step : Type 0 where
 abbrev pub leaving : Stepped → List ℕ → Step
 leaving x lent = record { answer = x .answer; world = x .world; lent = lent }
 
--- a call that answers a number alone, and the chip after it; the lent bytes stay
+-- a call that writes no list, and the chip after it; the lent bytes stay
 abbrev pub changeStep : Changed → Chip → List ℕ → Step
 changeStep x c lent = record {
-  answer = answers.the-variants.Setting (x .answer);
+  answer = answers.the-variants.Setting (x .numbers);
   world = record { host = x .host; chip = c };
   lent = lent;
 }

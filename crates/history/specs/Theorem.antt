@@ -42,7 +42,7 @@ use Rattle.history.specs.RivalLaws.{all-writes, all-good, all-own}
 
 -- the list's answer of a call that answered one
 abbrev listOf : answers.CallAnswer → ListAnswer
-listOf (answers.the-variants.Setting answer) = Refused Unsound
+listOf (answers.the-variants.Setting numbers) = Refused Unsound
 listOf (answers.the-variants.List answer) = answer
 
 -- ---- an Update of a world for which the invariant holds

@@ -10,14 +10,13 @@ mod ledgers;
 ghost use mathlib.Core.Path.{_≡_};
 ghost use mathlib.Core.List.{List};
 ghost use Prim.Native.Nat.{ℕ};
-ghost use Rattle.map.specs.Refusals.{numbersOf};
 ghost use Rattle.history.specs.Step.{callNumbers, leaving, changeStep, stepOf, clearOpensStep, clearShortsStep};
 ghost use Rattle.history.specs.Ledger.{toldOf, openedLedger, enteredOf};
 use calls::Request;
 use chip::Chip;
 use host::Changed;
 use host::Record;
-use map::Answer;
+use map::Numbers;
 use update::ListAnswer;
 
 // A host's record and its chip.
@@ -26,9 +25,9 @@ pub struct World {
     pub chip: Chip,
 }
 
-// What a call answers: a setting or Power lost a number alone, the others a list.
+// What a call answers: a setting or Power lost a number and the values that come with it, the others a list.
 pub enum CallAnswer {
-    Setting(Answer),
+    Setting(Numbers),
     List(ListAnswer),
 }
 
@@ -45,11 +44,11 @@ pub struct Ledger {
 }
 
 // The number of an answer and its values.
-pub fn call_numbers(answer: CallAnswer) -> map::Numbers
-    ensures { λ r. ⌜ r ≡ numbersOf (callNumbers answer) ⌝ }
+pub fn call_numbers(answer: CallAnswer) -> Numbers
+    ensures { λ r. ⌜ r ≡ callNumbers answer ⌝ }
 {
     match answer {
-        CallAnswer::Setting(number) => map::answer_numbers(number),
+        CallAnswer::Setting(numbers) => numbers,
         CallAnswer::List(list) => update::list_numbers(list),
     }
 }
@@ -78,18 +77,18 @@ pub fn step(world: World, request: Request, lent: &mut [u8]) -> Stepped
     }
 }
 
-// A call that answers a number alone, and the chip after it.
+// A call that writes no list, and the chip after it.
 fn changed(changed: Changed, chip: Chip) -> Stepped
     ensures { λ r. ⌜ ((lent : List ℕ) → leaving r lent ≡ changeStep changed chip lent) ⌝ }
 {
-    let answer = changed.answer;
+    let numbers = changed.numbers;
     let host = changed.host;
     let world = World {
         host: host,
         chip: chip,
     };
     Stepped {
-        answer: CallAnswer::Setting(answer),
+        answer: CallAnswer::Setting(numbers),
         world: world,
     }
 }

@@ -2,7 +2,7 @@
 -- Assumes nothing.
 use mathlib.Core.Path.{_≡_, refl, sym, ap, _∙_}
 use mathlib.Core.Bool.{Bool, true, false, cond, _&&_, false≢true}
-use mathlib.Core.List.{List}
+use mathlib.Core.List.{List, [], _∷_}
 use Prim.Native.Nat.{ℕ, zero, suc, _+_, _*_, _/_, _%_, _^_, _<_, _≤_}
 use native.Mathlib.Nat.{mod-eq-of-lt, zero-add}
 use native.Mathlib.Numerals.{add-one}
@@ -16,9 +16,10 @@ use Rattle.map.specs.declared.dots.Field.{Field}
 use Rattle.map.specs.declared.dots.Field as fields
 use Rattle.map.specs.declared.refusals.Answer.{Answer}
 use Rattle.map.specs.declared.refusals.Answer.the-variants.{Accepted, Refused}
+use Rattle.map.specs.declared.refusals.Numbers.{Numbers}
 use Rattle.map.specs.declared.refusals.Refusal.{Refusal}
 use Rattle.map.specs.declared.refusals.Refusal.the-variants.{NotWritable, ReservedBit, Level, Unsound}
-use Rattle.map.specs.Refusals.{accepted, openAnswer, opens}
+use Rattle.map.specs.Refusals.{answerNumber, numbersOf, accepted, openAnswer, opens}
 use Rattle.map.specs.RefusalLaws.{opens-member, opens-bus, opens-pins}
 use Rattle.map.specs.Map.{linesOf, columnsOf, numberIn, kindOf, reservedAs, reservedOf, writableOf, resetAs, resetOf, isDot, dotNumber, widthOf}
 use Rattle.map.specs.MapLaws.{lines-most, dot-line, dot-sink}
@@ -37,7 +38,7 @@ use Rattle.host.specs.declared.Changed.{Changed}
 use Rattle.host.specs.RecordLaws.{passed, setting-taken, register-taken, lamp-taken, field-taken, scene-taken}
 use Rattle.host.specs.Record.{recordOf, soundOf, opened, openHost, openOf, soundAnswer, whenSound, powerLostOf, registerAnswer, whenDot, lampAnswer}
 use Rattle.host.specs.Record.{sceneWord, sceneCount, sceneDot, sceneLevel, sceneHasDot, sceneFits, sceneSized, putScene}
-use Rattle.host.specs.Record.{argumentsAnswer, settingAnswer, putSetting}
+use Rattle.host.specs.Record.{argumentsAnswer, settingAnswer, settingNumbers, putSetting}
 
 -- ---- soundness
 
@@ -135,10 +136,10 @@ unfolding opens
 open-inside m b p x e t =
     let o : opens m b p ≡ true = sym (ap accepted e) ∙ t in (opens-member m b p o, opens-bus m b p o, opens-pins m b p o)
 
-pub open-is : (m b p : ℕ) (x : Answer) (r : Record) → x ≡ openAnswer m b p → r ≡ openHost x m b p →
-    _≡_ {A = Changed} (record { answer = x; host = r }) (openOf m b p)
+pub open-is : (m b p : ℕ) (x : Answer) (n : Numbers) (r : Record) → x ≡ openAnswer m b p → n ≡ numbersOf (answerNumber x ∷ []) →
+    r ≡ openHost x m b p → _≡_ {A = Changed} (record { answer = x; numbers = n; host = r }) (openOf m b p)
 unfolding openOf
-open-is m b p x r e q = rw (q, e) refl
+open-is m b p x n r e en q = rw (q, en, e) refl
 
 -- an image of 908 bytes becomes the new one wherever the answer is Accepted
 pub whole-image : (answer : Answer) (image new : List ℕ) → length image ≡ 908 →
@@ -149,10 +150,11 @@ whole-image answer image new h = go (accepted answer)
     go true = rw (eq-eqb (length image) 908 h) refl
     go false = refl
 
-pub lost-is : (r : Record) (x : Answer) (image : List ℕ) → x ≡ soundAnswer r → image ≡ cond (accepted x) (resetImage (r .header .member)) (r .image) →
-    _≡_ {A = Changed} (record { answer = x; host = recordOf (r .header) (r .settings) image }) (powerLostOf r)
+pub lost-is : (r : Record) (x : Answer) (n : Numbers) (image : List ℕ) → x ≡ soundAnswer r → n ≡ numbersOf (answerNumber x ∷ []) →
+    image ≡ cond (accepted x) (resetImage (r .header .member)) (r .image) →
+    _≡_ {A = Changed} (record { answer = x; numbers = n; host = recordOf (r .header) (r .settings) image }) (powerLostOf r)
 unfolding powerLostOf
-lost-is r x image e q = rw (q, e) refl
+lost-is r x n image e en q = rw (q, en, e) refl
 
 -- ---- what an accepted setting puts
 
@@ -170,6 +172,12 @@ module _ (h : Header) (settings image lent : List ℕ) (answer : Answer) where
   -- `new` is what `put_setting` promises
   abbrev Puts : Setting → List ℕ → Type 0
   Puts q new = new ≡ cond (accepted answer) (putSetting settings q lent) settings
+
+  -- the number of the answer, and no values
+  pub numbered : (q : Setting) (n : Numbers) → n ≡ numbersOf (answerNumber answer ∷ []) → Answers q →
+      n ≡ numbersOf (settingNumbers (recordOf h settings image) q lent)
+  unfolding settingNumbers
+  numbered q n en e = en ∙ rw e refl
 
   puts : (q : Setting) (new : List ℕ) → answer ≡ Accepted → new ≡ putSetting settings q lent → Puts q new
   puts q new a e = e ∙ rw (taken answer a) refl

@@ -3,7 +3,7 @@
 -- of a scene.
 -- Assumes nothing.
 use mathlib.Core.Bool.{Bool, cond, _&&_}
-use mathlib.Core.List.{List, []}
+use mathlib.Core.List.{List, [], _∷_}
 use Prim.Native.Nat.{ℕ, zero, suc, _+_, _*_}
 use lib.Dec.{leb, eqb}
 use lib.ListN.{length, getD, set}
@@ -11,7 +11,7 @@ use Rattle.map.specs.declared.refusals.Answer.{Answer}
 use Rattle.map.specs.declared.refusals.Answer.the-variants.{Accepted, Refused}
 use Rattle.map.specs.declared.refusals.Refusal.the-variants.{NotWritable, ReservedBit, NoDot, Level, GroupOrState, SceneLength, Unsound}
 use Rattle.map.specs.declared.dots.Field as fields
-use Rattle.map.specs.Refusals.{accepted, openAnswer, opens}
+use Rattle.map.specs.Refusals.{answerNumber, numbersOf, accepted, openAnswer, opens}
 use Rattle.map.specs.Map.{linesOf, columnsOf, isDot, numberIn, dotNumber, writableOf}
 use Rattle.map.specs.Images.{okByte, imageOk, resetImage}
 use Rattle.map.specs.Lists.{allFrom}
@@ -59,7 +59,11 @@ openHost answer m b p = cond (accepted answer) (opened m b p) (opened 0 0 0)
 
 -- "Open (member, bus 0 I2C or 1 SPI, pins)."
 unfoldable pub openOf : ℕ → ℕ → ℕ → Changed
-openOf m b p = record { answer = openAnswer m b p; host = openHost (openAnswer m b p) m b p }
+openOf m b p = record {
+  answer = openAnswer m b p;
+  numbers = numbersOf (answerNumber (openAnswer m b p) ∷ []);
+  host = openHost (openAnswer m b p) m b p;
+}
 
 -- ---- Register
 
@@ -132,7 +136,7 @@ putScene bytes image (suc k) = putLevel (putScene bytes image k) (sceneDot bytes
 
 -- ---- A setting: one of these five calls
 
--- what a sound record answers to it
+-- "A call checks in the order its refusals stand here.": what a sound record answers to it
 unfoldable pub argumentsAnswer : Header → List ℕ → Setting → List ℕ → Answer
 argumentsAnswer h settings (Register a v) lent = registerAnswer h a v
 argumentsAnswer h settings (Lamp l s v) lent = lampAnswer h settings l s v
@@ -140,9 +144,13 @@ argumentsAnswer h settings (Group l s g) lent = fieldAnswer h l s g 3
 argumentsAnswer h settings (Switch l s x) lent = fieldAnswer h l s x 1
 argumentsAnswer h settings Scene lent = sceneAnswer h settings lent
 
--- what any record answers
+-- "Every call but Open and Faults first refuses an unsound record with 14.": what any record answers
 unfoldable pub settingAnswer : Record → Setting → List ℕ → Answer
 settingAnswer r q lent = whenSound r (argumentsAnswer (r .header) (r .settings) q lent)
+
+-- "this paper's number and values": a setting's are its number alone, since "a refusal .. carries only its number"
+unfoldable pub settingNumbers : Record → Setting → List ℕ → List ℕ
+settingNumbers r q lent = answerNumber (settingAnswer r q lent) ∷ []
 
 -- "the old one changed at the named bits": the settings after it. Register: "Only that byte of the settings changes."
 unfoldable pub putSetting : List ℕ → Setting → List ℕ → List ℕ
@@ -153,12 +161,16 @@ putSetting settings (Switch l s x) lent = putField fields.the-variants.Switch se
 putSetting settings Scene lent = putScene lent settings (sceneCount lent)
 
 -- "a refusal returns it unchanged": the settings become the new ones where the call is accepted, and nothing else changes
-unfoldable pub changedTo : Record → Answer → List ℕ → Changed
-changedTo r answer new = record { answer = answer; host = recordOf (r .header) (cond (accepted answer) new (r .settings)) (r .image) }
+unfoldable pub changedTo : Record → Answer → List ℕ → List ℕ → Changed
+changedTo r answer numbers new = record {
+  answer = answer;
+  numbers = numbersOf numbers;
+  host = recordOf (r .header) (cond (accepted answer) new (r .settings)) (r .image);
+}
 
--- the call
+-- "Each setting's promise equates the whole new image with the old one changed at the named bits."
 unfoldable pub settingOf : Record → Setting → List ℕ → Changed
-settingOf r q lent = changedTo r (settingAnswer r q lent) (putSetting (r .settings) q lent)
+settingOf r q lent = changedTo r (settingAnswer r q lent) (settingNumbers r q lent) (putSetting (r .settings) q lent)
 
 -- "Register (address, one-byte value)."
 abbrev pub registerOf : Record → ℕ → ℕ → Changed
@@ -190,5 +202,6 @@ soundAnswer r = whenSound r Accepted
 unfoldable pub powerLostOf : Record → Changed
 powerLostOf r = record {
   answer = soundAnswer r;
+  numbers = numbersOf (answerNumber (soundAnswer r) ∷ []);
   host = recordOf (r .header) (r .settings) (cond (accepted (soundAnswer r)) (resetImage (r .header .member)) (r .image));
 }

@@ -10,7 +10,8 @@ use Rattle.map.specs.declared.refusals.Answer.{Answer}
 use Rattle.map.specs.declared.refusals.Answer.the-variants.{Accepted, Refused}
 use Rattle.map.specs.declared.refusals.Refusal.{Refusal}
 use Rattle.map.specs.declared.refusals.Refusal.the-variants.{NotWritable, ReservedBit, NoDot, Level, GroupOrState, SceneLength, Unsound}
-use Rattle.map.specs.Refusals.{accepted}
+use Rattle.map.specs.declared.refusals.Numbers.{Numbers}
+use Rattle.map.specs.Refusals.{numbersOf, accepted}
 use Rattle.map.specs.Map.{isDot, writableOf}
 use Rattle.map.specs.Images.{okByte}
 use Rattle.map.specs.Lists.{allFrom}
@@ -21,7 +22,7 @@ use Rattle.host.specs.declared.Record.{Record}
 use Rattle.host.specs.declared.Changed.{Changed}
 use Rattle.host.specs.Record.{recordOf, soundOf, mayWrite, whenSound, whenDot, registerAnswer, lampAnswer, fieldAnswer}
 use Rattle.host.specs.Record.{sceneCount, sceneSized, sceneHasDot, sceneFits, sceneAnswer}
-use Rattle.host.specs.Record.{argumentsAnswer, settingAnswer, putSetting, changedTo, settingOf}
+use Rattle.host.specs.Record.{argumentsAnswer, settingAnswer, settingNumbers, putSetting, changedTo, settingOf}
 
 -- an address may be written where it is writable for the member
 pub may-write : (h : Header) (a : ℕ) → mayWrite h a ≡ writableOf (h .member) a
@@ -87,9 +88,9 @@ module _ (h : Header) where
           fits = passed (allFrom (sceneFits (topLevel settings) bytes) 0 (sceneCount bytes)) Accepted Level (d .1) .0;
         }
 
--- a record that was put together from an answer and new settings
-pub changed-is : (r : Record) (q : Setting) (lent : List ℕ) (answer : Answer) (settings : List ℕ) → answer ≡ settingAnswer r q lent →
-    settings ≡ cond (accepted answer) (putSetting (r .settings) q lent) (r .settings) →
-    _≡_ {A = Changed} (record { answer = answer; host = recordOf (r .header) settings (r .image) }) (settingOf r q lent)
+-- a record that was put together from an answer, its numbers and new settings
+pub changed-is : (r : Record) (q : Setting) (lent : List ℕ) (answer : Answer) (n : Numbers) (settings : List ℕ) → answer ≡ settingAnswer r q lent →
+    n ≡ numbersOf (settingNumbers r q lent) → settings ≡ cond (accepted answer) (putSetting (r .settings) q lent) (r .settings) →
+    _≡_ {A = Changed} (record { answer = answer; numbers = n; host = recordOf (r .header) settings (r .image) }) (settingOf r q lent)
 unfolding settingOf changedTo
-changed-is r q lent answer settings ea es = rw (es, ea) refl
+changed-is r q lent answer n settings ea en es = rw (es, en, ea) refl

@@ -18,6 +18,7 @@ pub use answers::sound_answer;
 pub use answers::sound_parts;
 use calls::Setting;
 use map::Answer;
+use map::Numbers;
 pub use store::put_lost;
 pub use store::put_setting;
 
@@ -34,9 +35,10 @@ pub struct Record {
     pub image: [u8; 908],
 }
 
-// What a call answers, and the host's record that it gives back.
+// What a call answers, the number of that answer with the values that it has, and the host's record that it gives back.
 pub struct Changed {
     pub answer: Answer,
+    pub numbers: Numbers,
     pub host: Record,
 }
 
@@ -56,6 +58,7 @@ pub fn open(member: usize, bus: usize, pins: usize) -> Changed
     let host = store::opened(answer, member, bus, pins);
     Changed {
         answer: answer,
+        numbers: map::answer_numbers(answer),
         host: host,
     }
 }
@@ -66,9 +69,10 @@ pub fn set(mut r: Record, setting: Setting, lent: &[u8]) -> Changed
 {
     let header = r.header;
     let answer = setting_answer(header, &r.settings, &r.image, setting, lent);
-    store::put_own(answer, header, &mut r.settings, setting, lent);
+    let numbers = store::put_own(answer, header, &mut r.settings, setting, lent);
     Changed {
         answer: answer,
+        numbers: numbers,
         host: r,
     }
 }
@@ -136,6 +140,7 @@ pub fn power_lost(mut r: Record) -> Changed
     store::lose_own(answer, header, &mut r.image);
     Changed {
         answer: answer,
+        numbers: map::answer_numbers(answer),
         host: r,
     }
 }

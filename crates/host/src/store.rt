@@ -5,17 +5,18 @@ ghost use mathlib.Core.List.{List};
 ghost use Prim.Native.Nat.{ℕ, _<_};
 ghost use lib.Dec.{eqb, ltb};
 ghost use lib.ListN.{length, set};
-ghost use Rattle.map.specs.Refusals.{accepted};
+ghost use Rattle.map.specs.Refusals.{numbersOf, accepted};
 ghost use Rattle.map.specs.Images.{resetImage};
 ghost use Rattle.map.specs.Map.{dotNumber};
 ghost use Rattle.dots.specs.Dots.{putLevel};
-ghost use Rattle.host.specs.Record.{recordOf, opened, openHost, settingAnswer, putSetting};
+ghost use Rattle.host.specs.Record.{recordOf, opened, openHost, settingAnswer, settingNumbers, putSetting};
 use crate::Header;
 use crate::Record;
 use crate::scenes;
 use calls::Setting;
 use map::Answer;
 use map::Field;
+use map::Numbers;
 
 fn new_record(member: usize, bus: usize, pins: usize) -> Record
     requires { ⌜ (member < 5) × (bus < 2) × (pins < 4) ⌝ }
@@ -66,44 +67,45 @@ fn put_lamp(settings: &mut [u8], line: usize, sink: usize, level: usize)
     dots::put_level(settings, (18 * line + sink) as u8, level);
 }
 
-// What a setting puts into the settings where its answer, that of a record with these settings, is Accepted.
+// What a setting puts into the settings where its answer, that of a record with these settings, is Accepted. It gives back the number of
+// that answer, with the values that come with it: none of these settings has any.
 pub fn put_setting(
     answer: Answer,
     header: Header,
     settings: &mut [u8],
     setting: Setting,
     lent: &[u8],
-)
+) -> Numbers
     ensures { λ _. ⌜ ((image : List ℕ) → answer ≡ settingAnswer (recordOf header (now (settings .entry)) image) setting (now (lent .entry)) → now (settings .exit) ≡ cond (accepted answer) (putSetting (now (settings .entry)) setting (now (lent .entry))) (now (settings .entry))) ⌝ }
+    ensures { λ r. ⌜ ((image : List ℕ) → answer ≡ settingAnswer (recordOf header (now (settings .entry)) image) setting (now (lent .entry)) → r ≡ numbersOf (settingNumbers (recordOf header (now (settings .entry)) image) setting (now (lent .entry)))) ⌝ }
 {
     let Answer::Accepted = answer else {
-        return;
+        return map::answer_numbers(answer);
     };
     let member = header.member as usize;
     match setting {
-        Setting::Register { address, value } => put_byte(settings, address, (value % 256) as u8),
-        Setting::Lamp { line, sink, level } => put_lamp(settings, line, sink, level),
+        Setting::Register { address, value } => {
+            put_byte(settings, address, (value % 256) as u8);
+            map::answer_numbers(answer)
+        }
+        Setting::Lamp { line, sink, level } => {
+            put_lamp(settings, line, sink, level);
+            map::answer_numbers(answer)
+        }
         Setting::Group { line, sink, group } => {
-            dots::put_field(
-                Field::Group,
-                member,
-                settings,
-                line,
-                sink,
-                (group % 256) as u8,
-            )
+            let value = (group % 256) as u8;
+            dots::put_field(Field::Group, member, settings, line, sink, value);
+            map::answer_numbers(answer)
         }
         Setting::Switch { line, sink, state } => {
-            dots::put_field(
-                Field::Switch,
-                member,
-                settings,
-                line,
-                sink,
-                (state % 256) as u8,
-            )
+            let value = (state % 256) as u8;
+            dots::put_field(Field::Switch, member, settings, line, sink, value);
+            map::answer_numbers(answer)
         }
-        Setting::Scene => scenes::put(settings, lent),
+        Setting::Scene => {
+            scenes::put(settings, lent);
+            map::answer_numbers(answer)
+        }
     }
 }
 
@@ -114,10 +116,11 @@ pub(crate) fn put_own(
     settings: &mut [u8; 908],
     setting: Setting,
     lent: &[u8],
-)
+) -> Numbers
     ensures { λ _. ⌜ ((image : List ℕ) → answer ≡ settingAnswer (recordOf header (now (settings .entry)) image) setting (now (lent .entry)) → now (settings .exit) ≡ cond (accepted answer) (putSetting (now (settings .entry)) setting (now (lent .entry))) (now (settings .entry))) ⌝ }
+    ensures { λ r. ⌜ ((image : List ℕ) → answer ≡ settingAnswer (recordOf header (now (settings .entry)) image) setting (now (lent .entry)) → r ≡ numbersOf (settingNumbers (recordOf header (now (settings .entry)) image) setting (now (lent .entry)))) ⌝ }
 {
-    put_setting(answer, header, settings, setting, lent);
+    put_setting(answer, header, settings, setting, lent)
 }
 
 // The reset values, into the image of a record whose Power lost or Reset was accepted.

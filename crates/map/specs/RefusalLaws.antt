@@ -1,4 +1,5 @@
--- What Open answers, by the ranges of its arguments, and what follows from its acceptance. The numbers of an answer are those of its list.
+-- What Open answers, by the ranges of its arguments, and what follows from its acceptance. The numbers of an answer are those of its
+-- list, and the first of them is small.
 -- Assumes nothing.
 use mathlib.Core.Path.{_≡_, refl, sym, ap, _∙_}
 use mathlib.Core.Bool.{Bool, true, false, cond, _&&_, _||_, false≢true}
@@ -10,9 +11,11 @@ use borrow.Author.Tests.{lt-ltb, le-ltb, eq-eqb}
 use lib.Dec.{ltb, eqb}
 use lib.ListN.{length, take}
 use lib.Seq.{take-all, take-nil}
-use Rattle.map.specs.declared.refusals.Refusal.the-variants.{Member, Bus, Pins}
+use Rattle.map.specs.declared.refusals.Answer.{Answer}
+use Rattle.map.specs.declared.refusals.Refusal.{Refusal}
+use Rattle.map.specs.declared.refusals.Refusal.the-variants.{Member, Bus, Pins, NotWritable, ReservedBit, NoDot, Level, GroupOrState, SceneLength, BufferShort, ListSizes, FaultLength, Unsound}
 use Rattle.map.specs.declared.refusals.Answer.the-variants.{Accepted, Refused}
-use Rattle.map.specs.Refusals.{numbersIn, numbersOf, openAnswer, opens}
+use Rattle.map.specs.Refusals.{refusalNumber, answerNumber, numbersIn, numbersOf, openAnswer, opens}
 
 -- an answer has at most four values
 pub numbers-five : (l : List ℕ) → numbersIn (numbersOf l) ≡ take 5 l
@@ -26,6 +29,26 @@ numbers-five (n ∷ v ∷ w ∷ x ∷ y ∷ l) = ap (λ (r : List ℕ). n ∷ v 
 
 pub numbers-back : (l : List ℕ) → length l ≤ 5 → numbersIn (numbersOf l) ≡ l
 numbers-back l h = numbers-five l ∙ take-all 5 l h
+
+-- a number has two digits at most
+pub refusal-small : (r : Refusal) → refusalNumber r < 100
+refusal-small Member = omega arith
+refusal-small Bus = omega arith
+refusal-small Pins = omega arith
+refusal-small NotWritable = omega arith
+refusal-small ReservedBit = omega arith
+refusal-small NoDot = omega arith
+refusal-small Level = omega arith
+refusal-small GroupOrState = omega arith
+refusal-small SceneLength = omega arith
+refusal-small BufferShort = omega arith
+refusal-small ListSizes = omega arith
+refusal-small FaultLength = omega arith
+refusal-small Unsound = omega arith
+
+pub answer-small : (answer : Answer) → answerNumber answer < 100
+answer-small Accepted = omega arith
+answer-small (Refused r) = refusal-small r
 
 module _ (m b p : ℕ) where
   pub open-member : 4 < m → openAnswer m b p ≡ Refused Member

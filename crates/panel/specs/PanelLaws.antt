@@ -77,7 +77,7 @@ module _ (w : World) (whole : Whole w) (lent : List ℕ) (n t needed : ℕ) wher
 
   -- it answers the number of the call by value
   pub step-answers : (request : Request) →
-      panelStep (bytesOf w) request lent n t needed .answer ≡ getD (callNumbers (stepOf w request lent .answer)) 0 0
+      panelStep (bytesOf w) request lent n t needed .answer ≡ callNumbers (stepOf w request lent .answer) .number
   step-answers (Set q) = ap (λ (x : Outcome). x .answer) (setting-of-call r (whole .settings) (whole .image) q lent)
   step-answers Reset = ap (λ (x : ListOutcome). x .answer) (sent resetting)
   step-answers PowerLost = ap (λ (x : Outcome). x .answer) (power-lost-call r (whole .settings) (whole .image))

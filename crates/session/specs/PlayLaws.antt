@@ -10,9 +10,9 @@ use native.Mathlib.Omega.{arith}
 use lib.Dec.{leb}
 use lib.ListN.{length, getD, take, length-append}
 use Rattle.map.specs.declared.refusals.Numbers as numbers
-use Rattle.map.specs.declared.refusals.Refusal.{Refusal}
-use Rattle.map.specs.declared.refusals.Refusal.the-variants.{Member, Bus, Pins, NotWritable, ReservedBit, NoDot, Level, GroupOrState, SceneLength, BufferShort, ListSizes, FaultLength, Unsound}
+use Rattle.map.specs.declared.refusals.Refusal.the-variants.{BufferShort, Unsound}
 use Rattle.map.specs.Refusals.{refusalNumber, numbersIn, numbersOf}
+use Rattle.map.specs.RefusalLaws.{refusal-small}
 use Rattle.burst.specs.Burst.{busBytes}
 use Rattle.calls.specs.declared.Request.{Request}
 use Rattle.calls.specs.declared.Request.the-variants.{Set, Reset, PowerLost, Update}
@@ -58,21 +58,6 @@ values-most n v w hn hv hw = numbers-most 0 n (2 ∷ 2 ∷ []) (v ∷ w ∷ []) 
 held-most : (l : List ℕ) → length (numbersText l) ≤ 9 → length (numbersText (numbersIn (numbersOf l))) ≤ 9
 held-most l h = omega (arith, numbers-within l)
 
-refusal-small : (r : Refusal) → refusalNumber r < 100
-refusal-small Member = omega arith
-refusal-small Bus = omega arith
-refusal-small Pins = omega arith
-refusal-small NotWritable = omega arith
-refusal-small ReservedBit = omega arith
-refusal-small NoDot = omega arith
-refusal-small Level = omega arith
-refusal-small GroupOrState = omega arith
-refusal-small SceneLength = omega arith
-refusal-small BufferShort = omega arith
-refusal-small ListSizes = omega arith
-refusal-small FaultLength = omega arith
-refusal-small Unsound = omega arith
-
 -- n and t have three digits at most, and what a buffer that is too short is answered is no longer
 record Brief (x : Sending) : Type 0 where
   writes : length (x .writes) < 1000
@@ -99,13 +84,13 @@ update-brief r e = record {
 command-brief : (a v : ℕ) (image : List ℕ) → Brief (command a v image)
 command-brief a v image = record { writes = omega arith; bytes = omega arith; short = alone-most (refusalNumber BufferShort) (omega arith) }
 
-update-most : (w : World) (lent : List ℕ) → length (numbersText (callNumbers (stepOf w Update lent .answer))) ≤ 9
+update-most : (w : World) (lent : List ℕ) → length (numbersText (numbersIn (callNumbers (stepOf w Update lent .answer)))) ≤ 9
 unfolding sendOf
-update-most w lent = send-most (w .host) (updating (w .host)) (length lent) (update-brief (w .host))
+update-most w lent = held-most _ (send-most (w .host) (updating (w .host)) (length lent) (update-brief (w .host)))
 
-command-most : (w : World) (a v : ℕ) (image lent : List ℕ) → length (numbersText (callNumbers (sendStep w (command a v image) lent .answer))) ≤ 9
+command-most : (w : World) (a v : ℕ) (image lent : List ℕ) → length (numbersText (numbersIn (callNumbers (sendStep w (command a v image) lent .answer)))) ≤ 9
 unfolding sendOf
-command-most w a v image lent = send-most (w .host) (command a v image) (length lent) (λ e. command-brief a v image)
+command-most w a v image lent = held-most _ (send-most (w .host) (command a v image) (length lent) (λ e. command-brief a v image))
 
 faults-most : (answer : faults.Answer) → length (numbersText (answerNumbers answer)) ≤ 9
 unfolding answerNumbers
@@ -161,22 +146,22 @@ plain-short Same p = omega arith
 plain-short (Differs a) p = omega arith
 
 call-short : (w : World) (q : Request) (lent : lents.Lent) (bytes x : List ℕ) (s : Session) → BufferFits q lent →
-    ShortLent (answered lent (numbersOf (callNumbers (stepOf w q bytes .answer))) x s .reply)
+    ShortLent (answered lent (callNumbers (stepOf w q bytes .answer)) x s .reply)
 unfolding BufferFits answered alone ShortLent
 call-short w q Nothing bytes x s f = omega arith
 call-short w q (Word n) bytes x s f = omega arith
 call-short w (Set q) (Room n) bytes x s f = absurd (omega arith)
-call-short w Reset (Room n) bytes x s f = held-most _ (command-most w 0x0A9 0xFF _ bytes)
+call-short w Reset (Room n) bytes x s f = command-most w 0x0A9 0xFF _ bytes
 call-short w PowerLost (Room n) bytes x s f = absurd (omega arith)
-call-short w Update (Room n) bytes x s f = held-most _ (update-most w bytes)
+call-short w Update (Room n) bytes x s f = update-most w bytes
 
 line-short : (s : Session) (c : Command) (l b : List ℕ) → Fits l c → ShortLent (effectOf s c l b .reply)
 unfolding effectOf openEffect callEffect stepEffect feedEffect faultsEffect shownBytes behindBack numbered alone answered Fits ShortLent
 line-short s commands.Bad l b f = omega arith
 line-short s (commands.Open m bus p) l b f = omega arith
 line-short s (commands.Call q lent) l b f = call-short (s .world) q lent (lentOf lent l b) _ _ (f .1)
-line-short s (commands.ClearOpens n) l b f = held-most _ (command-most (s .world) 0x0A7 0x0F _ (take n b))
-line-short s (commands.ClearShorts n) l b f = held-most _ (command-most (s .world) 0x0A8 0x0F _ (take n b))
+line-short s (commands.ClearOpens n) l b f = command-most (s .world) 0x0A7 0x0F _ (take n b)
+line-short s (commands.ClearShorts n) l b f = command-most (s .world) 0x0A8 0x0F _ (take n b)
 line-short s (commands.Feed k) l b f = omega arith
 line-short s (commands.Faults m k n) l b f = held-most _ (faults-most (faultsAnswer m (bytesOf (wordAt l k)) (take n b)))
 line-short s (commands.Show p) l b f = omega arith

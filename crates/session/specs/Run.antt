@@ -106,7 +106,7 @@ withWorld s w = record { world = w; ledger = s .ledger; valid = s .valid }
 
 -- any call: what it answers, and the record and the chip after it. "An Update, Reset or Clear prints its own answer"
 unfoldable pub stepEffect : Session → lents.Lent → Step → Effect
-stepEffect s lent x = answered lent (numbersOf (callNumbers (x .answer))) (x .lent) (withWorld s (x .world))
+stepEffect s lent x = answered lent (callNumbers (x .answer)) (x .lent) (withWorld s (x .world))
 
 -- "the ledger of the accepted settings" is told of a call of the list of demand 3
 unfoldable pub told : Session → Request → List ℕ → Session

@@ -1,6 +1,7 @@
 -- `capi::set` meets its contract.
 -- Assumes nothing.
-use Rattle.capi.proofs.InPlace.{wrong-size, setting-done}
+use Rattle.capi.proofs.InPlace.{wrong-size, setting-number, number-fits, setting-done}
+use native.Mathlib.Omega.{arith}
 use borrow.Author.Needs.{needs}
 use Rattle.capi.proofs.set.Statement.{statement}
 use Rattle.capi.proofs.set.Tie as tie
@@ -47,11 +48,11 @@ part-put-setting-end c = search needs
 put-setting-requires : tie.Need-put-setting-requires
 put-setting-requires c κs = search needs
 
-answer-number-requires : tie.Need-answer-number-requires
-answer-number-requires c κs = search needs
-
 cast-result : tie.Need-cast-result
-cast-result c = search needs
+cast-result c =
+    let stored = c .before .before .before in
+    let answer = stored .before .before .setting-answer .ensures in
+    omega (arith, number-fits _ _ _ _ _ answer (stored .put-setting .ensures .1 _ answer))
 
 same-length : tie.Need-same-length
 same-length c = search needs
@@ -62,7 +63,8 @@ returns-2 c =
     let tested = stored .before .before in
     let read = tested .before .before .before .before in
     let answer = tested .setting-answer .ensures in
-    setting-done _ (read .before .before .if1 .left) _ (read .header .ensures) _ _ (c .answer-number .ensures) _ _ _ answer (stored .put-setting .ensures _ answer)
+    let put = stored .put-setting .ensures in
+    setting-done _ (read .before .before .if1 .left) _ (read .header .ensures) _ _ (setting-number _ _ _ _ _ answer (put .1 _ answer)) _ _ _ answer (put .0 _ answer)
 
 pub set-spec : {M : Type 1} → statement M
 set-spec =
@@ -82,7 +84,6 @@ set-spec =
     part-put-setting-start
     part-put-setting-end
     put-setting-requires
-    answer-number-requires
     cast-result
     same-length
     returns-2)

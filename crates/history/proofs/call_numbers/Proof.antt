@@ -1,8 +1,6 @@
 -- `history::call_numbers` meets its contract.
 -- Assumes nothing.
 use mathlib.Core.Path.{_∙_, sym, ap}
-use Rattle.map.specs.Refusals.{numbersOf}
-use Rattle.history.specs.declared.CallAnswer.{CallAnswer}
 use Rattle.history.specs.Step.{callNumbers}
 use borrow.Author.Needs.{needs}
 use Rattle.history.proofs.call_numbers.Statement.{statement}
@@ -11,9 +9,6 @@ use Rattle.history.proofs.call_numbers.Tie as tie
 enum-known-answer : tie.Need-enum-known-answer
 enum-known-answer c = search needs
 
-answer-numbers-requires : tie.Need-answer-numbers-requires
-answer-numbers-requires c κs = search needs
-
 enum-known-answer-2 : tie.Need-enum-known-answer-2
 enum-known-answer-2 c = search needs
 
@@ -21,18 +16,12 @@ list-numbers-requires : tie.Need-list-numbers-requires
 list-numbers-requires c κs = search needs
 
 returns : tie.Need-returns
-returns c = c .answer-numbers .ensures ∙ ap (λ (x : CallAnswer). numbersOf (callNumbers x)) (sym (c .before .before .answer .given .1))
+returns c = search needs
 
 returns-2 : tie.Need-returns-2
-returns-2 c = c .list-numbers .ensures ∙ ap (λ (x : CallAnswer). numbersOf (callNumbers x)) (sym (c .before .before .answer2 .given .1))
+returns-2 c = c .list-numbers .ensures ∙ ap callNumbers (sym (c .before .before .answer2 .given .1))
 
 pub call-numbers-spec : {M : Type 1} → statement M
 call-numbers-spec =
     tie.close
-    (tie.spec
-    enum-known-answer
-    answer-numbers-requires
-    enum-known-answer-2
-    list-numbers-requires
-    returns
-    returns-2)
+    (tie.spec enum-known-answer enum-known-answer-2 list-numbers-requires returns returns-2)

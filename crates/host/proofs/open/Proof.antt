@@ -11,8 +11,12 @@ open-answer-requires c κs = search needs
 opened-requires : tie.Need-opened-requires
 opened-requires c κs = open-inside _ _ _ _ (c .open-answer .ensures)
 
+answer-numbers-requires : tie.Need-answer-numbers-requires
+answer-numbers-requires c κs = search needs
+
 returns : tie.Need-returns
-returns c = open-is _ _ _ _ _ (c .before .open-answer .ensures) (c .opened .ensures)
+returns c = open-is _ _ _ _ _ _ (c .before .before .open-answer .ensures) (c .answer-numbers .ensures) (c .before .opened .ensures)
 
 pub open-spec : {M : Type 1} → statement M
-open-spec = tie.close (tie.spec open-answer-requires opened-requires returns)
+open-spec =
+    tie.close (tie.spec open-answer-requires opened-requires answer-numbers-requires returns)

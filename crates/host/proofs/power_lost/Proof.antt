@@ -11,8 +11,12 @@ sound-answer-requires c κs = search needs
 lose-own-requires : tie.Need-lose-own-requires
 lose-own-requires c κs = search needs
 
+answer-numbers-requires : tie.Need-answer-numbers-requires
+answer-numbers-requires c κs = search needs
+
 returns : tie.Need-returns
-returns c = lost-is _ _ _ (c .before .before .sound-answer .ensures) (c .lose-own .ensures)
+returns c = lost-is _ _ _ _ (c .before .before .before .sound-answer .ensures) (c .answer-numbers .ensures) (c .before .lose-own .ensures)
 
 pub power-lost-spec : {M : Type 1} → statement M
-power-lost-spec = tie.close (tie.spec sound-answer-requires lose-own-requires returns)
+power-lost-spec =
+    tie.close (tie.spec sound-answer-requires lose-own-requires answer-numbers-requires returns)

@@ -12,7 +12,9 @@ put-own-requires : tie.Need-put-own-requires
 put-own-requires c κs = search needs
 
 returns : tie.Need-returns
-returns c = changed-is _ _ _ _ _ (c .before .before .setting-answer .ensures) (c .put-own .ensures _ (c .before .before .setting-answer .ensures))
+returns c =
+    let answer = c .before .before .setting-answer .ensures in
+    changed-is _ _ _ _ _ _ answer (c .put-own .ensures .1 _ answer) (c .put-own .ensures .0 _ answer)
 
 pub set-spec : {M : Type 1} → statement M
 set-spec = tie.close (tie.spec setting-answer-requires put-own-requires returns)
