@@ -61,7 +61,8 @@ abbrev pub SameWritable : ℕ → List ℕ → List ℕ → Type 0
 SameWritable m x y = (a : ℕ) → writableOf m a ≡ true → getD x a 0 ≡ getD y a 0
 
 -- A transaction x is "a write to this chip and each data byte, heard or not, for a writable address", one that may be written by the
--- record's header h: `burstOf` has the address of the head and the data behind it.
+-- record's header h (`may-write-after` of WorldLaws: after any list of calls these are the member's writable ones). `burstOf` has the
+-- address of the head and the data behind it.
 pub record Allowed (b p : ℕ) (h : Header) (x : List ℕ) : Type 0 where
   pub write : decodeOf b p (getD x 0 0) (getD x 1 0) ≡ Write (burstOf b x .start)
   pub may : (i : ℕ) → i < length (burstOf b x .bytes) → mayWrite h (burstOf b x .start + i) ≡ true

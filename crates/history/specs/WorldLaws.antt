@@ -17,7 +17,7 @@ use Rattle.map.specs.ImageLaws.{Image, Registers}
 use Rattle.burst.specs.Burst.{Burst, busBytes, encode}
 use Rattle.burst.specs.BurstLaws.{encode-length}
 use Rattle.dots.specs.DotImages.{reset-image}
-use Rattle.plan.specs.Update.{valueAt, Same}
+use Rattle.plan.specs.Update.{valueAt, Agree}
 use Rattle.plan.specs.Machine.{Ready}
 use Rattle.plan.specs.MachineLaws.{machine-best}
 use Rattle.calls.specs.declared.Setting.{Setting}
@@ -76,7 +76,7 @@ pub record Holds (m b p : ℕ) (s : List ℕ) (w : World) : Type 0 where
   pub settings-fit : Image m s
   pub image-fit : Image m image
   pub registers-fit : Registers m registers
-  pub same : Same (writableOf m) 908 (valueAt image) (valueAt registers)
+  pub same : Agree (writableOf m) 908 (valueAt image) (valueAt registers)
 
 module _ (m b p : ℕ) (o : opens m b p ≡ true) where
   pub start-holds : Holds m b p (resetImage m) (start m b p)
@@ -141,7 +141,7 @@ module _ (m b p : ℕ) (o : opens m b p ≡ true) where
       pub fed : feedOf chip (encode b p (x .writes)) .chip ≡ chipOf m b p after
       pub image-fit : Image m (x .image)
       pub after-fit : Registers m after
-      pub follows : Same (writableOf m) 908 (valueAt (x .image)) (valueAt after)
+      pub follows : Agree (writableOf m) 908 (valueAt (x .image)) (valueAt after)
 
     -- nothing was sent
     stays : Holds m b p s world

@@ -11,7 +11,7 @@ use Rattle.burst.specs.Burst.{Burst}
 use Rattle.plan.specs.Lists.{sets-inside}
 use Rattle.plan.specs.Plan.{dirty, plan}
 use Rattle.plan.specs.PlanLaws.{plan-none}
-use Rattle.plan.specs.Update.{valueAt, Same, marksFor, onBy, sameAt, seen, dataOf, enable, updateBy, updateFor, storeAll, Images}
+use Rattle.plan.specs.Update.{valueAt, Agree, marksFor, onBy, sameAt, seen, dataOf, enable, updateBy, updateFor, storeAll, Images}
 use Rattle.plan.specs.UpdateLaws.{on-same, dirty-differs, seen-allows, update-on, update-off}
 use Rattle.plan.specs.Follow.{image-reaches}
 
@@ -24,12 +24,12 @@ module _ (ok : ℕ → Bool) (n : ℕ) (settings image : List ℕ) (r : Images o
   after = storeAll (listTo image) image
 
   -- where settings and image agree no address is dirty
-  none-dirty : (have : ℕ → ℕ) → Same ok n have (valueAt settings) → (a : ℕ) → a < n → marksFor ok (sameAt (valueAt settings) have) a ≡ dirty → ⊥
+  none-dirty : (have : ℕ → ℕ) → Agree ok n have (valueAt settings) → (a : ℕ) → a < n → marksFor ok (sameAt (valueAt settings) have) a ≡ dirty → ⊥
   none-dirty have e a h d =
       let q = dirty-differs ok (sameAt (valueAt settings) have) a d in
       eqb-false (have a) (valueAt settings a) (q .differs) (e a h (q .may))
 
-  on-again : onBy (valueAt settings) ≡ true → Same ok n (valueAt after) (valueAt settings) → listTo after ≡ []
+  on-again : onBy (valueAt settings) ≡ true → Agree ok n (valueAt after) (valueAt settings) → listTo after ≡ []
   on-again o e =
       update-on ok n settings (r .layout) (seen (valueAt settings) (valueAt after)) o
       ∙ ap (λ (b : Bool). enable b ++ map (dataOf settings) (plan (marksFor ok (sameAt (valueAt settings) (valueAt after))) n))

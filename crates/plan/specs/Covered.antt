@@ -14,7 +14,7 @@ use Rattle.burst.specs.Burst.{Burst}
 use Rattle.plan.specs.Lists.{All}
 use Rattle.plan.specs.Plan.{Write, costBy}
 use Rattle.plan.specs.Writes.{Good, AllGood, Inside, Sent, SendsAll}
-use Rattle.plan.specs.Update.{Same, marksFor, onBy, View, sameAt, seen, writeOf, enableCost}
+use Rattle.plan.specs.Update.{Agree, marksFor, onBy, View, sameAt, seen, writeOf, enableCost}
 use Rattle.plan.specs.UpdateLaws.{on-same, Differs, dirty-differs}
 use Rattle.plan.specs.Machine.{Machine, feedBy}
 
@@ -98,8 +98,8 @@ module _ (ok : ℕ → Bool) (n : ℕ) (M : Machine ok n) where
     pub costs : (h : ℕ) → enableCost h (v .sure) + costBy h writes ≤ costBy h (map writeOf bs)
 
   -- a list that brings a chip with the bytes `have` to wanted bytes that are on
-  module _ (want have : ℕ → ℕ) (s : M .State) (same : Same ok n have (M .byte s)) (bs : List Burst) (g : AllGood ok n (map writeOf bs))
-      (e : Same ok n (M .byte (feedBy ok n M s bs)) want) where
+  module _ (want have : ℕ → ℕ) (s : M .State) (same : Agree ok n have (M .byte s)) (bs : List Burst) (g : AllGood ok n (map writeOf bs))
+      (e : Agree ok n (M .byte (feedBy ok n M s bs)) want) where
     heard-sends : SendsAll (marksFor ok (sameAt want have)) n (heardOf s bs)
     heard-sends a l d = go (heard-or-same bs s g a (q .may) (q .past))
       where

@@ -8,7 +8,7 @@ use Prim.Native.Nat.{ℕ, _+_, _≤_, _<_}
 use lib.ListN.{length, getD}
 use Rattle.burst.specs.Burst.{Burst, busBytes}
 use Rattle.plan.specs.Writes.{Good, AllGood}
-use Rattle.plan.specs.Update.{valueAt, Same, onBy, seen, updateFor, storeAll, writeOf, Images}
+use Rattle.plan.specs.Update.{valueAt, Agree, onBy, seen, updateFor, storeAll, writeOf, Images}
 
 -- A chip: its states, their bytes, and what it makes of a transaction. The laws are asked of transactions to writable addresses.
 pub record Machine (ok : ℕ → Bool) (n : ℕ) : Type 1 where
@@ -40,7 +40,7 @@ module _ (ok : ℕ → Bool) (n : ℕ) (M : Machine ok n) where
     -- What an update needs: the image has the chip's writable bytes, and the settings fit.
     pub record Ready : Type 0 where
       pub images : Images ok n settings image
-      pub same : Same ok n (valueAt image) (M .byte s)
+      pub same : Agree ok n (valueAt image) (M .byte s)
       pub sound : M .Sound s
       pub fit : (a : ℕ) → a < n → ok a ≡ true → M .Fit a (valueAt settings a)
 
@@ -52,16 +52,16 @@ module _ (ok : ℕ → Bool) (n : ℕ) (M : Machine ok n) where
     -- then as after that Update."
     pub record Rival (rival : List Burst) : Type 0 where
       pub allowed : AllGood ok n (map writeOf rival)
-      pub same : Same ok n (M .byte (feedBy s rival)) (M .byte (feedBy s sent))
+      pub same : Agree ok n (M .byte (feedBy s rival)) (M .byte (feedBy s sent))
 
     -- The claims.
     pub record Best : Type 0 where
       -- every data byte of the update is for a writable address
       pub allowed : AllGood ok n (map writeOf sent)
       -- settings that are on are then in the chip
-      pub reached : onBy (valueAt settings) ≡ true → Same ok n (M .byte (feedBy s sent)) (valueAt settings)
+      pub reached : onBy (valueAt settings) ≡ true → Agree ok n (M .byte (feedBy s sent)) (valueAt settings)
       -- the image with the data bytes at their addresses is again the chip
-      pub follows : Same ok n (valueAt (storeAll sent image)) (M .byte (feedBy s sent))
+      pub follows : Agree ok n (valueAt (storeAll sent image)) (M .byte (feedBy s sent))
       -- no rival takes fewer bus bytes
       pub fewest : (rival : List Burst) → Rival rival → busBytes sent ≤ busBytes rival
       -- and none with as few has fewer transactions

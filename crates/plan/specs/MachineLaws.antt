@@ -14,7 +14,7 @@ use Rattle.plan.specs.Plan.{writableBy, costBy, plan}
 use Rattle.plan.specs.Writes.{Good, AllGood}
 use Rattle.plan.specs.WriteLaws.{good-weaken, cost-three}
 use Rattle.plan.specs.Cheapest.{plan-cheapest-by}
-use Rattle.plan.specs.Update.{valueAt, Same, marksFor, onBy, View, seen, enableWrite, updateBy, updateFor, writeOf, enableCost}
+use Rattle.plan.specs.Update.{valueAt, Agree, marksFor, onBy, View, seen, enableWrite, updateBy, updateFor, writeOf, enableCost}
 use Rattle.plan.specs.UpdateLaws.{bus-cost, on-same, zero-is, ok-mark, Allows, seen-allows, good-enable, update-off, update-good, update-cost}
 use Rattle.plan.specs.Machine.{Machine, feedBy, Ready, sent, Rival, Best}
 use Rattle.plan.specs.Covered.{Covered, covered}
@@ -63,7 +63,7 @@ module _ (ok : ℕ → Bool) (n : ℕ) (M : Machine ok n) where
 
     -- settings that are off: of the lists that leave what it leaves, where the view has the chip on as it is
     off-least : (v : View) → v .perhaps ≡ onBy (valueAt image) → onBy (valueAt settings) ≡ false → (rival : List Burst) →
-        AllGood ok n (map writeOf rival) → Same ok n (M .byte (feedBy ok n M s rival)) (M .byte (feedBy ok n M s (updateFor ok n settings v))) →
+        AllGood ok n (map writeOf rival) → Agree ok n (M .byte (feedBy ok n M s rival)) (M .byte (feedBy ok n M s (updateFor ok n settings v))) →
         (h : ℕ) → costBy h (map writeOf (updateFor ok n settings v)) ≤ costBy h (map writeOf rival)
     off-least v p o rival g e h = go (v .perhaps) refl
       where

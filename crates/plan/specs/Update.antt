@@ -15,8 +15,8 @@ abbrev pub valueAt : List ℕ → ℕ → ℕ
 valueAt image a = getD image a 0
 
 -- the writable bytes of the two are the same
-abbrev pub Same : (ℕ → Bool) → ℕ → (ℕ → ℕ) → (ℕ → ℕ) → Type 0
-Same ok n f g = (a : ℕ) → a < n → ok a ≡ true → f a ≡ g a
+abbrev pub Agree : (ℕ → Bool) → ℕ → (ℕ → ℕ) → (ℕ → ℕ) → Type 0
+Agree ok n f g = (a : ℕ) → a < n → ok a ≡ true → f a ≡ g a
 
 -- ---- Marks
 

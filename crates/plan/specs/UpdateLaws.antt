@@ -17,7 +17,7 @@ use Rattle.plan.specs.Writes.{Good, AllGood}
 use Rattle.plan.specs.WriteLaws.{count-le-cost, good-weaken}
 use Rattle.plan.specs.PlanLaws.{plan-good, plan-small, plan-same}
 use Rattle.plan.specs.Cheapest.{Wider, hole-hole, clean-clean, clean-dirty, dirty-dirty, plan-most}
-use Rattle.plan.specs.Update.{valueAt, Same, markAt, marksFor, allDiffer, onBy, View, sameAt, seen, dataOf, enableWrite, enable, updateBy, updateFor, writeOf, enableCost, Layout}
+use Rattle.plan.specs.Update.{valueAt, Agree, markAt, marksFor, allDiffer, onBy, View, sameAt, seen, dataOf, enableWrite, enable, updateBy, updateFor, writeOf, enableCost, Layout}
 
 -- ---- the bytes of a list on the bus are the cost of its writes
 
@@ -102,7 +102,7 @@ marks-same ok n f g e (suc a) l = go (ok (suc a)) (e (suc a) l)
     go false h = refl
 
 -- so the list by the host's image is the list by the chip
-pub update-same : (ok : ℕ → Bool) (n : ℕ) (settings : List ℕ) (f g : ℕ → ℕ) → 0 < n → ok 0 ≡ true → Same ok n f g →
+pub update-same : (ok : ℕ → Bool) (n : ℕ) (settings : List ℕ) (f g : ℕ → ℕ) → 0 < n → ok 0 ≡ true → Agree ok n f g →
     updateFor ok n settings (seen (valueAt settings) f) ≡ updateFor ok n settings (seen (valueAt settings) g)
 unfolding updateFor
 update-same ok n settings f g z k e =

@@ -13,7 +13,7 @@ mod lists;
 ghost use mathlib.Core.Path.{_≡_};
 ghost use lib.ListN.{length};
 ghost use Rattle.map.specs.Refusals.{numbersOf};
-ghost use Rattle.update.specs.Update.{updateOf, updateBuffer, chipResetOf, resetBuffer, clearOf, clearOpensBuffer, clearShortsBuffer, listNumber, listNumbers};
+ghost use Rattle.update.specs.Update.{updateOf, updateBuffer, chipResetOf, resetBuffer, clearOf, clearOpensBuffer, clearShortsBuffer, listNumbers};
 pub use commands::clear_opens_parts;
 pub use commands::clear_shorts_parts;
 pub use commands::reset_parts;
@@ -37,18 +37,7 @@ pub struct Updated {
     pub host: Record,
 }
 
-// 0 where a list was written, else the refusal's number.
-pub fn list_number(answer: ListAnswer) -> u8
-    ensures { λ r. ⌜ r ≡ listNumber answer ⌝ }
-{
-    match answer {
-        ListAnswer::Listed { n: _, t: _ } => 0,
-        ListAnswer::Short { needed: _ } => map::refusal_number(Refusal::BufferShort),
-        ListAnswer::Refused(refusal) => map::refusal_number(refusal),
-    }
-}
-
-// That number, and the values that come with it: n and t, or the length needed.
+// 0 where a list was written, else the refusal's number; and the values that come with it: n and t, or the length needed.
 pub fn list_numbers(answer: ListAnswer) -> Numbers
     ensures { λ r. ⌜ r ≡ numbersOf (listNumbers answer) ⌝ }
 {

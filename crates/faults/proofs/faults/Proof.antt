@@ -32,7 +32,12 @@ same-length : tie.Need-same-length
 same-length c = search needs
 
 returns-2 : tie.Need-returns-2
-returns-2 c = read-is _ _ _ _ (c .before .before .before .before .before .before .before .before .checked .ensures) _ (c .before .before .before .before .read-all .result .opens) (c .before .before .before .before .read-all .result .shorts) _ (c .before .before .before .before .before .before .enum-told .given .1) (c .before .before .before .before .read-all .ensures .0) (c .before .before .before .before .read-all .ensures .1 .0) (c .before .before .before .before .read-all .ensures .1 .1) (c .read .ensures)
+returns-2 c =
+    let all = c .before .before .before .before in
+    let told = all .before .before in
+    let tested = told .before .before in
+    read-is _ _ _ _ (tested .checked .ensures) _ (all .read-all .result .opens) (all .read-all .result .shorts) _ (told .enum-told .given .1)
+    (all .read-all .ensures .0) (all .read-all .ensures .1 .0) (all .read-all .ensures .1 .1) (c .read .ensures)
 
 pub faults-spec : {M : Type 1} → statement M
 faults-spec =

@@ -46,9 +46,14 @@ same-length c = search needs
 
 returns : tie.Need-returns
 returns c =
-    let s = c .before .before .before .before .before .before .before .before .before .before .before .before .before .before .before .before .before .before in
-    line-put _ _ (s .args .list .now) (s .pre .0) (s .pre .1) _ _ _ _ _ _ _ _ _ (c .before .before .before .before .before .before .before .before .before .before .before .before .head-address .ensures) (c .before .before .before .before .before .before .before .before .before .before .before .put-address .ensures)
-    (c .before .before .before .before .before .before .put-spaced-bytes .ensures) (c .before .before .put .ensures)
+    let ended = c .before .before in
+    let bytes = ended .before .before .before .before in
+    let addressed = bytes .before .before .before .before .before in
+    let headed = addressed .before in
+    let s = headed .before .before .before .before .before .before in
+    line-put _ _ (s .args .list .now) (s .pre .0) (s .pre .1) _ _ _ _ _ _ _ _ _
+    (headed .head-address .ensures) (addressed .put-address .ensures)
+    (bytes .put-spaced-bytes .ensures) (ended .put .ensures)
 
 pub put-line-spec : {M : Type 1} → statement M
 put-line-spec =

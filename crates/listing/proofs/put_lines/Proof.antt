@@ -47,7 +47,11 @@ loop-less c = omega arith
 
 loop-again : tie.Need-loop-again Inv-loop μ-loop
 loop-again c =
-    shown-more _ _ _ _ _ _ _ _ (c .before .before .before .before .before .before .loop .inv) _ (c .before .before .before .before .before .loop-test .taken) (c .before .before .before .before .size-at .ensures) _ _ (c .before .before .put-line .ensures)
+    let put = c .before .before in
+    let sized = put .before .before in
+    let tested = sized .before in
+    let looped = tested .before in
+    shown-more _ _ _ _ _ _ _ _ (looped .loop .inv) _ (tested .loop-test .taken) (sized .size-at .ensures) _ _ (put .put-line .ensures)
 
 same-length : tie.Need-same-length Inv-loop μ-loop
 same-length c = c .before .loop .inv .same

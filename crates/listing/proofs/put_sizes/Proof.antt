@@ -21,7 +21,12 @@ same-length : tie.Need-same-length
 same-length c = search needs
 
 returns : tie.Need-returns
-returns c = sizes-put _ _ _ _ _ _ _ _ _ _ _ (c .before .before .before .before .before .before .before .before .before .before .before .before .before .before .put-decimal .ensures) (c .before .before .before .before .before .before .before .before .before .before .put .ensures) (c .before .before .before .before .before .before .put-decimal2 .ensures) (c .before .before .put2 .ensures)
+returns c =
+    let ended = c .before .before in
+    let second = ended .before .before .before .before in
+    let spaced = second .before .before .before .before in
+    let first = spaced .before .before .before .before in
+    sizes-put _ _ _ _ _ _ _ _ _ _ _ (first .put-decimal .ensures) (spaced .put .ensures) (second .put-decimal2 .ensures) (ended .put2 .ensures)
 
 pub put-sizes-spec : {M : Type 1} → statement M
 put-sizes-spec =

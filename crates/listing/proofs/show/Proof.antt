@@ -43,7 +43,13 @@ same-length-3 c = search needs
 
 returns-3 : tie.Need-returns-3
 returns-3 c =
-    shows-good _ _ _ _ (c .before .before .before .before .before .before .before .before .before .before .before .read-sizes .ensures) (c .before .before .before .before .before .before .before .before .before .sizes .given .1) _ _ _ _ _ (c .before .before .before .before .before .before .before .before .before .before .before .before .if1 .left) (c .before .before .before .before .before .before .put-sizes .ensures) (c .before .before .put-lines .ensures)
+    let lines = c .before .before in
+    let counted = lines .before .before .before .before in
+    let told = counted .before .before .before in
+    let read = told .before .before in
+    let within = read .before in
+    shows-good _ _ _ _ (read .read-sizes .ensures) (told .sizes .given .1) _ _ _ _ _
+    (within .if1 .left) (counted .put-sizes .ensures) (lines .put-lines .ensures)
 
 pub show-spec : {M : Type 1} → statement M
 show-spec =

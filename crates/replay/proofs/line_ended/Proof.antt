@@ -26,9 +26,12 @@ same-length c = search needs
 
 returns-2 : tie.Need-returns-2
 returns-2 c =
-    let put = c .before .before .before .before .before .play .ensures in
+    let played = c .before .before .before .before .before in
+    let tested = played .before .before .before in
+    let entered = tested .before .before .before in
+    let put = played .play .ensures in
     let room = room-waits _ _ (put .1 .1 .0) (omega arith) in
-    (rw (not-false (c .before .before .before .before .before .before .before .before .before .before .before .args .over) (c .before .before .before .before .before .before .before .before .if1 .left)) (put .0), (omega (arith, put .1 .1 .1), omega (arith, c .with-room .ensures, room)))
+    (rw (not-false (entered .args .over) (tested .if1 .left)) (put .0), (omega (arith, put .1 .1 .1), omega (arith, c .with-room .ensures, room)))
 
 pub line-ended-spec : {M : Type 1} → statement M
 line-ended-spec =

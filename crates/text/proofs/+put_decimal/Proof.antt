@@ -59,7 +59,10 @@ same-length-2 t c = search needs
 
 returns-2 : (t : ℕ) → lts.Need-returns-2 (claims t) (given t) reads.Post
 returns-2 t c =
-    decimal-put _ _ _ _ _ _ _ _ (c .before .before .before .before .before .before .before .before .before .if1 .left) (c .before .before .before .before .before .before .before .put-decimal .ensures) (c .before .before .before .digit-of2 .ensures) (c .before .before .put2 .ensures)
+    let last = c .before .before in
+    let front = last .before .before .before .before .before in
+    let tested = front .before .before in
+    decimal-put _ _ _ _ _ _ _ _ (tested .if1 .left) (front .put-decimal .ensures) (c .before .before .before .digit-of2 .ensures) (last .put2 .ensures)
 
 pub +put-decimal-spec : {M : Type 1} → statement M
 +put-decimal-spec = close μ λ t.

@@ -21,7 +21,11 @@ same-length : tie.Need-same-length
 same-length c = search needs
 
 returns : tie.Need-returns
-returns c = byte-put _ _ _ _ _ _ _ _ _ (c .before .before .before .before .before .before .before .before .digit-of .ensures) (c .before .before .before .before .before .before .before .put .ensures) (c .before .before .before .digit-of2 .ensures) (c .before .before .put2 .ensures)
+returns c =
+    let second = c .before .before in
+    let first = second .before .before .before .before .before in
+    let high = first .before in
+    byte-put _ _ _ _ _ _ _ _ _ (high .digit-of .ensures) (first .put .ensures) (c .before .before .before .digit-of2 .ensures) (second .put2 .ensures)
 
 pub put-byte-spec : {M : Type 1} → statement M
 put-byte-spec =

@@ -62,7 +62,12 @@ loop-less : tie.Need-loop-less Inv-loop μ-loop
 loop-less c = omega arith
 
 loop-again : tie.Need-loop-again Inv-loop μ-loop
-loop-again c = line-more _ _ _ _ _ _ _ _ _ _ _ _ _ _ _ _ (omega arith) (omega arith) (c .before .before .before .before .before .before .before .before .pre .0) (c .before .before .before .before .before .before .before .before .pre .1) (c .before .before .before .dot-in .ensures) (c .before .before .fault-bit .ensures) (c .before .fault-bit2 .ensures) (c .reading .ensures) (c .before .before .before .before .before .loop .inv)
+loop-again c =
+    let dot = c .before .before .before in
+    let looped = dot .before .before in
+    let given = looped .before .before .before in
+    line-more _ _ _ _ _ _ _ _ _ _ _ _ _ _ _ _ (omega arith) (omega arith) (given .pre .0) (given .pre .1)
+    (dot .dot-in .ensures) (c .before .before .fault-bit .ensures) (c .before .fault-bit2 .ensures) (c .reading .ensures) (looped .loop .inv)
 
 same-length : tie.Need-same-length Inv-loop μ-loop
 same-length c = search needs

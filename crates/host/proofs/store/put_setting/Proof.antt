@@ -17,9 +17,10 @@ answer-numbers-requires c κs = search needs
 returns : tie.Need-returns
 returns c =
     let a = c .before .before .before .before .before .args in
-    let is = c .before .enum-told2 .given .1 in
-    (λ image e. refused-puts (a .header) (a .settings .now) image (a .lent .now) (a .answer) _ _ is,
-    λ image e. numbered (a .header) (a .settings .now) image (a .lent .now) (a .answer) _ _ (c .answer-numbers .ensures) e)
+    let is = c .before .enum-told2 .given .1 in (
+      λ image e. refused-puts (a .header) (a .settings .now) image (a .lent .now) (a .answer) _ _ is,
+      λ image e. numbered (a .header) (a .settings .now) image (a .lent .now) (a .answer) _ _ (c .answer-numbers .ensures) e,
+    )
 
 cast-member : tie.Need-cast-member
 cast-member c = search needs

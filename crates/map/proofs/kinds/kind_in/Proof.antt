@@ -50,7 +50,16 @@ unfolding kindNamed
 returns-10 c = sym (kind-in-at _ _ 8 (c .before .before .if1 .left) (c .match .keys9))
 
 returns-11 : tie.Need-returns-11
-returns-11 c = sym (kind-in-other _ _ (c .before .before .if1 .left) (c .match .rest .0 .0 .0 .0 .0 .0 .0 .0 .1) (c .match .rest .0 .0 .0 .0 .0 .0 .0 .1) (c .match .rest .0 .0 .0 .0 .0 .0 .1) (c .match .rest .0 .0 .0 .0 .0 .1) (c .match .rest .0 .0 .0 .0 .1) (c .match .rest .0 .0 .0 .1) (c .match .rest .0 .0 .1) (c .match .rest .0 .1) (c .match .rest .1))
+returns-11 c =
+    let n8 = c .match .rest in
+    let n7 = n8 .0 in
+    let n6 = n7 .0 in
+    let n5 = n6 .0 in
+    let n4 = n5 .0 in
+    let n3 = n4 .0 in
+    let n2 = n3 .0 in
+    let n1 = n2 .0 in
+    sym (kind-in-other _ _ (c .before .before .if1 .left) (n1 .0 .1) (n1 .1) (n2 .1) (n3 .1) (n4 .1) (n5 .1) (n6 .1) (n7 .1) (n8 .1))
 
 pub kind-in-spec : {M : Type 1} → statement M
 kind-in-spec =

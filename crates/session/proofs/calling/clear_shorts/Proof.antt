@@ -24,7 +24,10 @@ same-length : tie.Need-same-length
 same-length c = search needs
 
 returns : tie.Need-returns
-returns c = clear-does _ _ _ (c .before .before .before .before .before .before .pre .0) (c .before .before .before .before .before .before .pre .1) (c .before .before .before .clear-shorts .kept .1 .0) _ _ _ _ (c .before .before .before .clear-shorts .ensures) (c .stepped .ensures)
+returns c =
+    let called = c .before .before .before in
+    let given = called .before .before .before in
+    clear-does _ _ _ (given .pre .0) (given .pre .1) (called .clear-shorts .kept .1 .0) _ _ _ _ (called .clear-shorts .ensures) (c .stepped .ensures)
 
 pub clear-shorts-spec : {M : Type 1} → statement M
 clear-shorts-spec =

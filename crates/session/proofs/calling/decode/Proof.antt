@@ -15,7 +15,10 @@ same-length : tie.Need-same-length
 same-length c = search needs
 
 returns : tie.Need-returns
-returns c = decoded _ _ _ _ _ _ (c .before .before .before .before .before .before .before .pre .0) (c .before .before .before .before .before .before .before .pre .1) (c .before .before .before .before .word .ensures) (c .before .before .decode .ensures .0)
+returns c =
+    let found = c .before .before .before .before in
+    let given = found .before .before .before in
+    decoded _ _ _ _ _ _ (given .pre .0) (given .pre .1) (found .word .ensures) (c .before .before .decode .ensures .0)
 
 pub decode-spec : {M : Type 1} → statement M
 decode-spec = tie.close (tie.spec word-requires decode-requires same-length returns)

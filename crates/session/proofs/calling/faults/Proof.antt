@@ -42,7 +42,12 @@ same-length : tie.Need-same-length
 same-length c = search needs
 
 returns : tie.Need-returns
-returns c = faults-does _ _ _ (c .before .before .before .before .before .before .before .before .before .before .before .before .before .pre .1) (c .before .before .before .before .before .before .before .before .before .before .before .before .before .pre .2) (c .before .before .before .before .faults .kept .1 .1 .0) _ _ _ _ _ _ _ (c .before .before .before .before .before .before .before .before .decode .ensures .1) (c .before .before .before .before .faults .ensures .0) (c .before .before .before .before .faults .ensures .1) (c .before .answer-numbers .ensures) (c .answered .ensures)
+returns c =
+    let read = c .before .before .before .before in
+    let decoded = read .before .before .before .before in
+    let given = decoded .before .before .before .before .before in
+    faults-does _ _ _ (given .pre .1) (given .pre .2) (read .faults .kept .1 .1 .0) _ _ _ _ _ _ _
+    (decoded .decode .ensures .1) (read .faults .ensures .0) (read .faults .ensures .1) (c .before .answer-numbers .ensures) (c .answered .ensures)
 
 pub faults-spec : {M : Type 1} → statement M
 faults-spec =

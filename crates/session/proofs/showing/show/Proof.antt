@@ -18,7 +18,11 @@ same-length : tie.Need-same-length
 same-length c = search needs
 
 returns : tie.Need-returns
-returns c = rw (← c .before .before .before .before .before .bytes-of .ensures) (shown-does _ _ _ _ _ (search needs) (c .before .before .before .before .before .before .before .pre) (c .before .before .put-text .kept .0) (c .before .before .put-text .ensures))
+returns c =
+    let put = c .before .before in
+    let parted = put .before .before .before in
+    let given = parted .before .before in
+    rw (← parted .bytes-of .ensures) (shown-does _ _ _ _ _ (search needs) (given .pre) (put .put-text .kept .0) (put .put-text .ensures))
 
 pub show-spec : {M : Type 1} → statement M
 show-spec =

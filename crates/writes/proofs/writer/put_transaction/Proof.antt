@@ -48,8 +48,13 @@ same-length-2 c =
 
 returns-3 : tie.Need-returns-3
 returns-3 c =
-    let a = c .before .before .before .before .before .before .before .before .before .before .args in
-    put-all (a .buffer .now) (a .settings .now) (a .at) (a .header .bus) (a .header .pins) (a .start) (a .len) _ _ _ (c .before .before .before .before .before .before .head-first .ensures) (c .before .before .before .before .head-second .ensures) (c .before .before .copy .ensures)
+    let copied = c .before .before in
+    let second = copied .before .before in
+    let first = second .before .before in
+    let entered = first .before .before .before .before in
+    let a = entered .args in
+    put-all (a .buffer .now) (a .settings .now) (a .at) (a .header .bus) (a .header .pins) (a .start) (a .len) _ _ _
+    (first .head-first .ensures) (second .head-second .ensures) (copied .copy .ensures)
 
 pub put-transaction-spec : {M : Type 1} → statement M
 put-transaction-spec =
