@@ -8,6 +8,7 @@ use Prim.Native.Nat.{ℕ, _+_, _≤_, _<_}
 use lib.ListN.{length, getD}
 use Rattle.map.specs.Refusals.{accepted}
 use Rattle.map.specs.Map.{writableOf}
+use Rattle.map.specs.Images.{resetImage}
 use Rattle.burst.specs.Burst.{burstOf, nOf, tOf, transactions}
 use Rattle.calls.specs.declared.Request.{Request}
 use Rattle.calls.specs.declared.Request.the-variants.{Update}
@@ -18,7 +19,7 @@ use Rattle.chip.specs.declared.decode.Transaction.the-variants.{Write}
 use Rattle.chip.specs.Chip.{atResetOf, decodeOf, feedOf}
 use Rattle.history.specs.declared.World.{World}
 use Rattle.history.specs.declared.CallAnswer as answers
-use Rattle.history.specs.Ledger.{Told, toldOf, ledger, wantsOn}
+use Rattle.history.specs.Ledger.{Told, toldOf, entries, ledger, wantsOn}
 use Rattle.history.specs.Step.{listIn, stepOf}
 
 -- ---- Lists of calls
@@ -90,12 +91,13 @@ UpdateAnswers w buffer n t = stepOf w Update buffer .answer ≡ answers.the-vari
 abbrev pub updateList : World → List ℕ → ℕ → ℕ → List ℕ
 updateList w buffer n t = listIn n t (stepOf w Update buffer .lent)
 
-module _ (m b p : ℕ) where
-  -- The calls are those `before`, an Update with this buffer that answers n and t, and those `behind` it.
-  pub record Updates (calls before behind : List Call) (buffer : List ℕ) (n t : ℕ) : Type 0 where
-    pub calls-are : calls ≡ before ++ (record { request = Update; lent = buffer } ∷ behind)
-    pub answers : UpdateAnswers (worldAfter m b p before) buffer n t
+-- The calls, of which the first gets the world w, are those `before`, an Update with this buffer that answers n and t, and those
+-- `behind` it.
+pub record Updates (w : World) (calls before behind : List Call) (buffer : List ℕ) (n t : ℕ) : Type 0 where
+  pub calls-are : calls ≡ before ++ (record { request = Update; lent = buffer } ∷ behind)
+  pub answers : UpdateAnswers (run w before) buffer n t
 
+module _ (m b p : ℕ) where
   -- What is owed behind an accepted Update that wrote `list` and answered n and t: `before` and `after` are the worlds before and after
   -- it, and s is the ledger.
   pub record Owed (s : List ℕ) (before after : World) (list : List ℕ) (n t : ℕ) : Type 0 where
@@ -110,15 +112,16 @@ module _ (m b p : ℕ) where
     pub own-count : nOf list ≡ n
     pub own-bytes : tOf list ≡ t
 
-  -- "Demand 3 is a single claim about the whole list, not one for each call."
-  pub record Demand3 (calls : List Call) : Type 0 where
+  -- "Demand 3 is a single claim about the whole list, not one for each call." The first call gets the world w, and the ledger then has
+  -- the bytes s.
+  pub record Demand3 (s : List ℕ) (w : World) (calls : List Call) : Type 0 where
     -- demand 3: "no update names an address outside the member's writable ones": no accepted Update, wherever it stands
-    pub names : (before behind : List Call) (buffer : List ℕ) (n t : ℕ) → Updates calls before behind buffer n t →
-        AllAllowed b p (worldAfter m b p before .host .header) (transactions (updateList (worldAfter m b p before) buffer n t))
+    pub names : (before behind : List Call) (buffer : List ℕ) (n t : ℕ) → Updates w calls before behind buffer n t →
+        AllAllowed b p (run w before .host .header) (transactions (updateList (run w before) buffer n t))
     -- demand 3: "and if the last call is an accepted update"
-    pub last : (before : List Call) (buffer : List ℕ) (n t : ℕ) → Updates calls before [] buffer n t →
-        Owed (ledgerAfter m b p calls) (worldAfter m b p before) (worldAfter m b p calls) (updateList (worldAfter m b p before) buffer n t) n t
+    pub last : (before : List Call) (buffer : List ℕ) (n t : ℕ) → Updates w calls before [] buffer n t →
+        Owed (entries m s (told w calls)) (run w before) (run w calls) (updateList (run w before) buffer n t) n t
 
--- for every list of calls after every Open that is accepted
+-- for every list of calls after every Open that is accepted; the ledger's bytes "begin at that member's reset values."
 abbrev pub WholeLists : Type 0
-WholeLists = (m b p : ℕ) → accepted (openOf m b p .answer) ≡ true → (calls : List Call) → Demand3 m b p calls
+WholeLists = (m b p : ℕ) → accepted (openOf m b p .answer) ≡ true → (calls : List Call) → Demand3 m b p (resetImage m) (start m b p) calls

@@ -9,13 +9,15 @@ use lib.ListN.{getD}
 use Rattle.map.specs.declared.dots.Field.the-variants.{Group, Switch}
 use Rattle.map.specs.Refusals.{accepted}
 use Rattle.map.specs.Map.{isDot, dotNumber, addressOf, shiftOf, widthOf}
+use Rattle.map.specs.Images.{resetImage}
 use Rattle.map.specs.Carries.{first, group, switch, pwm8, low, high}
 use Rattle.map.specs.PlaceLaws.{dot-member}
 use Rattle.map.specs.WritableLaws.{carries-writable}
 use Rattle.dots.specs.Dots.{levelOf, fieldOf, wideOf}
 use Rattle.host.specs.Record.{openOf}
-use Rattle.history.specs.Ledger.{wantsOn}
-use Rattle.history.specs.History.{Call, worldAfter, ledgerAfter, SameWritable, Updates}
+use Rattle.history.specs.declared.World.{World}
+use Rattle.history.specs.Ledger.{entries, wantsOn}
+use Rattle.history.specs.History.{Call, start, run, worldAfter, told, ledgerAfter, SameWritable, Updates, Demand3}
 use Rattle.history.specs.Theorem.{whole-lists}
 
 -- two images say the same of the dot at line l, sink s: its level, each read in the image's own data mode, its group and its switch
@@ -38,9 +40,15 @@ same-lamp m x y e l s d =
       switch = ap (λ (v : ℕ). v / 2 ^ shiftOf Switch s % 2 ^ widthOf Switch) (e _ (carries-writable m _ (switch l s d refl)));
     }
 
+-- so that demand 3 says it of every lamp
+pub lamps-owed : (m b p : ℕ) (s : List ℕ) (w : World) (calls : List Call) → Demand3 m b p s w calls → (before : List Call) (buffer : List ℕ) (n t : ℕ) →
+    Updates w calls before [] buffer n t → wantsOn (entries m s (told w calls)) ≡ true → (l k : ℕ) → isDot m l k ≡ true →
+    SameLamp (run w calls .chip .registers) (entries m s (told w calls)) l k
+lamps-owed m b p s w calls d before buffer n t u on =
+    same-lamp m (run w calls .chip .registers) (entries m s (told w calls)) (d .last before buffer n t u .values on)
+
 -- No lamp is stale: each one reads from the chip what the ledger says.
 pub no-lamp-stale : (m b p : ℕ) → accepted (openOf m b p .answer) ≡ true → (calls before : List Call) (buffer : List ℕ) (n t : ℕ) →
-    Updates m b p calls before [] buffer n t → wantsOn (ledgerAfter m b p calls) ≡ true → (l s : ℕ) → isDot m l s ≡ true →
+    Updates (start m b p) calls before [] buffer n t → wantsOn (ledgerAfter m b p calls) ≡ true → (l s : ℕ) → isDot m l s ≡ true →
     SameLamp (worldAfter m b p calls .chip .registers) (ledgerAfter m b p calls) l s
-no-lamp-stale m b p o calls before buffer n t u w =
-    same-lamp m (worldAfter m b p calls .chip .registers) (ledgerAfter m b p calls) (whole-lists m b p o calls .last before buffer n t u .values w)
+no-lamp-stale m b p o calls = lamps-owed m b p (resetImage m) (start m b p) calls (whole-lists m b p o calls)

@@ -6,5 +6,8 @@ pub mod MachineLaws
 pub mod WorldLaws
 pub mod RivalLaws
 pub mod Theorem
+pub mod Recovery
+pub mod RecoveryLaws
 pub mod Lamps
 pub mod HistoryExamples
+pub mod RecoveryExamples

@@ -12,6 +12,7 @@ use Rattle.map.specs.declared.refusals.Refusal.the-variants.{Unsound}
 use Rattle.map.specs.Refusals.{accepted, opens}
 use Rattle.map.specs.RefusalLaws.{opens-pins}
 use Rattle.map.specs.ByteLaws.{writable-below}
+use Rattle.map.specs.Images.{resetImage}
 use Rattle.burst.specs.Burst.{Burst, nOf, tOf, transactions, burstOf, busBytes, encode}
 use Rattle.burst.specs.BurstLaws.{Sendable, encode-transactions, encode-n, encode-t}
 use Rattle.plan.specs.Update.{valueAt}
@@ -33,15 +34,15 @@ use Rattle.chip.specs.Chip.{chipOf, feedOf}
 use Rattle.chip.specs.FeedLaws.{hearAll, Taken, feed-taken, feed-writes}
 use Rattle.history.specs.declared.World.{World}
 use Rattle.history.specs.declared.CallAnswer as answers
-use Rattle.history.specs.Ledger.{wantsOn}
+use Rattle.history.specs.Ledger.{entries, wantsOn}
 use Rattle.history.specs.Step.{listIn, fedBy, stepOf}
-use Rattle.history.specs.History.{Call, start, worldAfter, ledgerAfter, SameWritable, AllAllowed, Rival, UpdateAnswers, updateList, Updates, Owed, WholeLists}
+use Rattle.history.specs.History.{Call, start, run, worldAfter, told, SameWritable, AllAllowed, Rival, UpdateAnswers, updateList, Updates, Owed, Demand3, WholeLists}
 use Rattle.history.specs.MachineLaws.{may-writable, writable-may, machine, hear-all-is}
-use Rattle.history.specs.WorldLaws.{front, worldOf, Holds, is-so, ready, update-fed, history-holds, run-last, ledger-last}
+use Rattle.history.specs.WorldLaws.{front, worldOf, Holds, start-holds, is-so, ready, update-fed, run-holds, run-last, ledger-last}
 use Rattle.history.specs.RivalLaws.{all-writes, all-good, all-own}
 
 -- the list's answer of a call that answered one
-abbrev listOf : answers.CallAnswer → ListAnswer
+abbrev pub listOf : answers.CallAnswer → ListAnswer
 listOf (answers.the-variants.Setting numbers) = Refused Unsound
 listOf (answers.the-variants.List answer) = answer
 
@@ -180,55 +181,67 @@ module _ (m b p : ℕ) (o : opens m b p ≡ true) (s : List ℕ) (w : World) (h 
 
 -- ---- the last call of a list
 
-module _ (m b p : ℕ) (o : opens m b p ≡ true) (calls before : List Call) (buffer : List ℕ) (n t : ℕ) where
+module _ (m b p : ℕ) (o : opens m b p ≡ true) (s : List ℕ) (w : World) (h : Holds m b p s w) (calls before : List Call) (buffer : List ℕ) (n t : ℕ) where
   abbrev earlier : World
-  earlier = worldAfter m b p before
+  earlier = run w before
+
+  abbrev ledger-earlier : List ℕ
+  ledger-earlier = entries m s (told w before)
+
+  holds-earlier : Holds m b p ledger-earlier earlier
+  holds-earlier = run-holds m b p o before s w h
 
   abbrev call : Call
   call = record { request = Update; lent = buffer }
 
   -- what is owed behind an accepted Update, wherever it stands
-  owed : UpdateAnswers earlier buffer n t →
-      Owed m b p (ledgerAfter m b p before) earlier (stepOf earlier Update buffer .world) (updateList earlier buffer n t) n t
-  owed = update-owes m b p o (ledgerAfter m b p before) earlier (history-holds m b p o before) buffer n t
+  owed : UpdateAnswers earlier buffer n t → Owed m b p ledger-earlier earlier (stepOf earlier Update buffer .world) (updateList earlier buffer n t) n t
+  owed = update-owes m b p o ledger-earlier earlier holds-earlier buffer n t
 
-  module _ (u : Updates m b p calls before [] buffer n t) where
-    world-last : worldAfter m b p calls ≡ stepOf earlier Update buffer .world
-    world-last = ap (worldAfter m b p) (u .calls-are) ∙ run-last before call (start m b p)
+  module _ (u : Updates w calls before [] buffer n t) where
+    abbrev ledger-now : List ℕ
+    ledger-now = entries m s (told w calls)
 
-    ledger-stays : ledgerAfter m b p calls ≡ ledgerAfter m b p before
-    ledger-stays = ap (ledgerAfter m b p) (u .calls-are) ∙ ledger-last m b p before call
+    world-last : run w calls ≡ stepOf earlier Update buffer .world
+    world-last = ap (run w) (u .calls-are) ∙ run-last before call w
 
-    last-update : Owed m b p (ledgerAfter m b p calls) earlier (worldAfter m b p calls) (updateList earlier buffer n t) n t
+    ledger-stays : ledger-now ≡ ledger-earlier
+    ledger-stays = ap (λ (l : List Call). entries m s (told w l)) (u .calls-are) ∙ ledger-last m s w before call
+
+    last-update : Owed m b p ledger-now earlier (run w calls) (updateList earlier buffer n t) n t
     last-update =
-        subst (λ (x : World). Owed m b p (ledgerAfter m b p calls) earlier x (updateList earlier buffer n t) n t) (sym world-last)
-        (subst (λ (s : List ℕ). Owed m b p s earlier (stepOf earlier Update buffer .world) (updateList earlier buffer n t) n t) (sym ledger-stays)
+        subst (λ (x : World). Owed m b p ledger-now earlier x (updateList earlier buffer n t) n t) (sym world-last)
+        (subst (λ (x : List ℕ). Owed m b p x earlier (stepOf earlier Update buffer .world) (updateList earlier buffer n t) n t) (sym ledger-stays)
         (owed (u .answers)))
 
-    answer-again : (size : ℕ) → updateOf (worldAfter m b p calls .host) size .answer ≡ cond (leb 4 size) (Listed 0 0) (Short 4)
+    answer-again : (size : ℕ) → updateOf (run w calls .host) size .answer ≡ cond (leb 4 size) (Listed 0 0) (Short 4)
     unfolding sendOf sendAnswer
     answer-again size =
-        let k : Holds m b p (ledgerAfter m b p calls) (worldAfter m b p calls) = history-holds m b p o calls in
-        let so : soundOf (worldAfter m b p calls .host) ≡ true =
-        ap (λ (x : World). soundOf (x .host)) (k .is) ∙ is-so m b p o (ledgerAfter m b p calls) (worldAfter m b p calls) k in
-        let none : writesOf (worldAfter m b p calls .host) ≡ [] =
-        ap (λ (x : World). writesOf (x .host)) world-last
-        ∙ update-ends m b p o (ledgerAfter m b p before) earlier (history-holds m b p o before) buffer n t (u .answers) in
+        let k : Holds m b p ledger-now (run w calls) = run-holds m b p o calls s w h in
+        let so : soundOf (run w calls .host) ≡ true =
+        ap (λ (x : World). soundOf (x .host)) (k .is) ∙ is-so m b p o ledger-now (run w calls) k in
+        let none : writesOf (run w calls .host) ≡ [] =
+        ap (λ (x : World). writesOf (x .host)) world-last ∙ update-ends m b p o ledger-earlier earlier holds-earlier buffer n t (u .answers) in
         rw (so, none) refl
 
-opened : (m b p : ℕ) → accepted (openOf m b p .answer) ≡ true → opens m b p ≡ true
+-- Demand 3, from wherever the invariant holds
+pub holds-owes : (m b p : ℕ) → opens m b p ≡ true → (s : List ℕ) (w : World) → Holds m b p s w → (calls : List Call) → Demand3 m b p s w calls
+holds-owes m b p o s w h calls = record {
+  names = λ before behind buffer n t u. owed m b p o s w h calls before buffer n t (u .answers) .own .writes;
+  last = λ before buffer n t u. last-update m b p o s w h calls before buffer n t u;
+}
+
+pub opened : (m b p : ℕ) → accepted (openOf m b p .answer) ≡ true → opens m b p ≡ true
 unfolding openOf opens
 opened m b p e = e
 
 -- Demand 3
 pub whole-lists : WholeLists
-whole-lists m b p e calls = record {
-  names = λ before behind buffer n t u. owed m b p (opened m b p e) calls before buffer n t (u .answers) .own .writes;
-  last = λ before buffer n t u. last-update m b p (opened m b p e) calls before buffer n t u;
-}
+whole-lists m b p e calls = holds-owes m b p (opened m b p e) (resetImage m) (start m b p) (start-holds m b p (opened m b p e)) calls
 
 -- A second Update at once sends nothing: its list has no transaction, and asks for 4 bytes of buffer.
 pub second-update : (m b p : ℕ) → accepted (openOf m b p .answer) ≡ true → (calls before : List Call) (buffer : List ℕ) (n t : ℕ) →
-    Updates m b p calls before [] buffer n t → (size : ℕ) →
+    Updates (start m b p) calls before [] buffer n t → (size : ℕ) →
     updateOf (worldAfter m b p calls .host) size .answer ≡ cond (leb 4 size) (Listed 0 0) (Short 4)
-second-update m b p e calls before buffer n t u size = answer-again m b p (opened m b p e) calls before buffer n t u size
+second-update m b p e calls before buffer n t u size =
+    answer-again m b p (opened m b p e) (resetImage m) (start m b p) (start-holds m b p (opened m b p e)) calls before buffer n t u size

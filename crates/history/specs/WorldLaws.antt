@@ -39,7 +39,7 @@ use Rattle.chip.specs.Chip.{chipOf, newChip, atResetOf, feedOf}
 use Rattle.chip.specs.ChipLaws.{reset-registers}
 use Rattle.chip.specs.FeedLaws.{hearAll, hear-all-registers, feed-encoded, feed-reset, power-lost-is}
 use Rattle.history.specs.declared.World.{World}
-use Rattle.history.specs.Ledger.{entry, Told, toldOf, entered, entries, ledger}
+use Rattle.history.specs.Ledger.{entry, Told, toldOf, entered, entries}
 use Rattle.history.specs.LedgerLaws.{setting-enters, entry-image, entries-last}
 use Rattle.history.specs.Step.{listIn, fedBy, sendStep, stepOf}
 use Rattle.history.specs.History.{Call, start, run, worldAfter, tell, told, ledgerAfter}
@@ -279,7 +279,6 @@ told-last : (xs : List Call) (c : Call) (w : World) → told w (xs ++ (c ∷ [])
 told-last [] c w = refl
 told-last (x ∷ xs) c w = ap (λ (l : List Told). tell w x ∷ l) (told-last xs c (stepOf w (x .request) (x .lent) .world))
 
-pub ledger-last : (m b p : ℕ) (calls : List Call) (c : Call) →
-    ledgerAfter m b p (calls ++ (c ∷ [])) ≡ entered m (ledgerAfter m b p calls) (tell (worldAfter m b p calls) c)
-ledger-last m b p calls c =
-    ap (ledger m) (told-last calls c (start m b p)) ∙ entries-last m (told (start m b p) calls) (tell (worldAfter m b p calls) c) (resetImage m)
+pub ledger-last : (m : ℕ) (s : List ℕ) (w : World) (calls : List Call) (c : Call) →
+    entries m s (told w (calls ++ (c ∷ []))) ≡ entered m (entries m s (told w calls)) (tell (run w calls) c)
+ledger-last m s w calls c = ap (entries m s) (told-last calls c w) ∙ entries-last m (told w calls) (tell (run w calls) c) s

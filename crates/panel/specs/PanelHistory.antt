@@ -7,10 +7,11 @@ use mathlib.Core.Bool.{true}
 use mathlib.Core.List.{List, [], _∷_, _++_}
 use Prim.Native.Nat.{ℕ, _≤_}
 use lib.ListN.{drop}
+use Rattle.map.specs.Images.{resetImage}
 use Rattle.burst.specs.Burst.{nOf, tOf, transactions}
 use Rattle.calls.specs.declared.Request.{Request}
 use Rattle.calls.specs.declared.Request.the-variants.{Update}
-use Rattle.history.specs.Ledger.{Told, toldOf, ledger, wantsOn}
+use Rattle.history.specs.Ledger.{Told, toldOf, entries, ledger, wantsOn}
 use Rattle.history.specs.Step.{listIn}
 use Rattle.history.specs.History.{Call, SameWritable, AllAllowed}
 use Rattle.capi.specs.Capi.{headerIn, ListOutcome}
@@ -84,16 +85,16 @@ pub record PanelRival (m b p : ℕ) (before after : Panel) (l : List ℕ) : Type
 abbrev pub listOf : ListOutcome → List ℕ
 listOf u = listIn (u .n) (u .t) (u .buffer)
 
-module _ (m b p : ℕ) (memory : Panel) where
-  -- what an lp586x_update after these calls answers and leaves
-  abbrev pub updateAfter : List PanelCall → List ℕ → ℕ → ℕ → ListOutcome
-  updateAfter before buffer n t = updateCall (panelAfter m b p memory before .host) buffer n t
+-- what an lp586x_update on the panel w answers and leaves
+abbrev pub updateLeaves : Panel → List ℕ → ℕ → ℕ → ListOutcome
+updateLeaves w buffer n t = updateCall (w .host) buffer n t
 
-  -- The calls are those `before`, an Update with this buffer that answers 0, and those `behind` it.
-  pub record PanelUpdates (calls before behind : List PanelCall) (buffer : List ℕ) (n t needed : ℕ) : Type 0 where
-    pub calls-are : calls ≡ before ++ (record { request = Update; lent = buffer; n = n; t = t; needed = needed } ∷ behind)
-    pub answers : updateAfter before buffer n t .answer ≡ 0
+-- The calls, of which the first gets the panel w, are those `before`, an Update with this buffer that answers 0, and those `behind` it.
+pub record PanelUpdates (w : Panel) (calls before behind : List PanelCall) (buffer : List ℕ) (n t needed : ℕ) : Type 0 where
+  pub calls-are : calls ≡ before ++ (record { request = Update; lent = buffer; n = n; t = t; needed = needed } ∷ behind)
+  pub answers : updateLeaves (panelRun w before) buffer n t .answer ≡ 0
 
+module _ (m b p : ℕ) where
   -- What is owed behind an Update that answered 0 and left u: `before` and `after` are the panels before and after it, and s is the
   -- ledger.
   pub record PanelOwed (s : List ℕ) (before after : Panel) (u : ListOutcome) : Type 0 where
@@ -108,15 +109,18 @@ module _ (m b p : ℕ) (memory : Panel) where
     pub own-count : nOf (listOf u) ≡ u .n
     pub own-bytes : tOf (listOf u) ≡ u .t
 
-  -- "Demand 3 is a single claim about the whole list, not one for each call."
-  pub record PanelDemand3 (calls : List PanelCall) : Type 0 where
+  -- "Demand 3 is a single claim about the whole list, not one for each call." The first call gets the panel w, and the ledger then has
+  -- the bytes s.
+  pub record PanelDemand3 (s : List ℕ) (w : Panel) (calls : List PanelCall) : Type 0 where
     -- demand 3: "no update names an address outside the member's writable ones": no accepted Update, wherever it stands
-    pub names : (before behind : List PanelCall) (buffer : List ℕ) (n t needed : ℕ) → PanelUpdates calls before behind buffer n t needed →
-        AllAllowed b p (headerIn (panelAfter m b p memory before .host)) (transactions (listOf (updateAfter before buffer n t)))
+    pub names : (before behind : List PanelCall) (buffer : List ℕ) (n t needed : ℕ) → PanelUpdates w calls before behind buffer n t needed →
+        AllAllowed b p (headerIn (panelRun w before .host)) (transactions (listOf (updateLeaves (panelRun w before) buffer n t)))
     -- demand 3: "and if the last call is an accepted update"
-    pub last : (before : List PanelCall) (buffer : List ℕ) (n t needed : ℕ) → PanelUpdates calls before [] buffer n t needed →
-        PanelOwed (panelLedger m b p memory calls) (panelAfter m b p memory before) (panelAfter m b p memory calls) (updateAfter before buffer n t)
+    pub last : (before : List PanelCall) (buffer : List ℕ) (n t needed : ℕ) → PanelUpdates w calls before [] buffer n t needed →
+        PanelOwed (entries m s (panelTold w calls)) (panelRun w before) (panelRun w calls) (updateLeaves (panelRun w before) buffer n t)
 
--- for every list of calls after every lp586x_open and lp586x_chip_at_reset that answer 0
+-- for every list of calls after every lp586x_open and lp586x_chip_at_reset that answer 0; the ledger's bytes "begin at that member's
+-- reset values."
 abbrev pub PanelWholeLists : Type 0
-PanelWholeLists = (m b p : ℕ) (memory : Panel) → PanelOpened m b p memory → (calls : List PanelCall) → PanelDemand3 m b p memory calls
+PanelWholeLists =
+    (m b p : ℕ) (memory : Panel) → PanelOpened m b p memory → (calls : List PanelCall) → PanelDemand3 m b p (resetImage m) (panelStart m b p memory) calls

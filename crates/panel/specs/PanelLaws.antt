@@ -7,10 +7,11 @@ use mathlib.Core.List.{List, [], _∷_, map}
 use Prim.Native.Nat.{ℕ}
 use borrow.Author.Tests.{ne-eqb}
 use lib.ListN.{length, getD}
-use Rattle.map.specs.Refusals.{opens}
+use Rattle.map.specs.Refusals.{numbersOf, opens}
 use Rattle.calls.specs.declared.Request.{Request}
 use Rattle.calls.specs.declared.Request.the-variants.{Set, Reset, PowerLost, Update}
 use Rattle.host.specs.declared.Record.{Record}
+use Rattle.host.specs.Record.{settingNumbers, changedTo, settingOf, powerLostOf}
 use Rattle.update.specs.declared.ListAnswer.{ListAnswer}
 use Rattle.update.specs.declared.ListAnswer.the-variants.{Listed, Short, Refused}
 use Rattle.update.specs.Update.{listNumber, Sending, sendOf, sendBuffer, updating, resetting}
@@ -78,6 +79,7 @@ module _ (w : World) (whole : Whole w) (lent : List ℕ) (n t needed : ℕ) wher
   -- it answers the number of the call by value
   pub step-answers : (request : Request) →
       panelStep (bytesOf w) request lent n t needed .answer ≡ callNumbers (stepOf w request lent .answer) .number
+  unfolding settingOf changedTo settingNumbers powerLostOf numbersOf
   step-answers (Set q) = ap (λ (x : Outcome). x .answer) (setting-of-call r (whole .settings) (whole .image) q lent)
   step-answers Reset = ap (λ (x : ListOutcome). x .answer) (sent resetting)
   step-answers PowerLost = ap (λ (x : Outcome). x .answer) (power-lost-call r (whole .settings) (whole .image))

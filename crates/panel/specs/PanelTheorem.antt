@@ -1,4 +1,4 @@
--- Demand 3 is met for a C program: `panel-whole-lists`, from `whole-lists` of the crate history. `after-bytes` says that the bytes
+-- Demand 3 is met for a C program: `panel-whole-lists`, from `holds-owes` of the crate history. `after-bytes` says that the bytes
 -- after any list of calls are those of the record and chip after the same calls by value.
 -- Assumes nothing.
 use mathlib.Core.Path.{_≡_, refl, sym, ap, ap₂, _∙_, subst}
@@ -22,17 +22,17 @@ use Rattle.chip.specs.declared.Chip.{Chip}
 use Rattle.chip.specs.Chip.{atResetOf, feedOf}
 use Rattle.history.specs.declared.World.{World}
 use Rattle.history.specs.declared.CallAnswer as answers
-use Rattle.history.specs.Ledger.{ledger, wantsOn}
-use Rattle.history.specs.History.{Call, start, worldAfter, ledgerAfter, AllAllowed, SameWritable, Rival, Updates, Owed}
-use Rattle.history.specs.WorldLaws.{Holds, start-holds, history-holds}
-use Rattle.history.specs.Theorem.{whole-lists}
+use Rattle.history.specs.Ledger.{entries, ledger, wantsOn}
+use Rattle.history.specs.History.{Call, start, run, worldAfter, told, ledgerAfter, AllAllowed, SameWritable, Rival, Updates, Owed}
+use Rattle.history.specs.WorldLaws.{Holds, start-holds, run-holds}
+use Rattle.history.specs.Theorem.{holds-owes}
 use Rattle.history.specs.Lamps.{SameLamp, same-lamp}
 use Rattle.capi.specs.Capi.{headerIn, recordBytes, chipBytes, whenSized, settingNumber, chipNumber, nAfter, tAfter, Outcome, ListOutcome}
-use Rattle.capi.specs.Calls.{updateCall, chipFeedCall}
+use Rattle.capi.specs.Calls.{chipFeedCall}
 use Rattle.capi.specs.CapiLaws.{record-sized, chip-sized, record-length, chip-length, accepted-zero, zero-accepted, zero-stores}
 use Rattle.capi.specs.CallLaws.{listOutcomeOf, open-accepted, open-bytes, at-reset-bytes, send-call, feed-call}
 use Rattle.panel.specs.PanelStep.{Panel, panelOf}
-use Rattle.panel.specs.PanelHistory.{PanelCall, panelStart, PanelOpened, panelRun, panelAfter, panelTold, callOf, panelLedger, registersIn, PanelRival, listOf, updateAfter, PanelUpdates, PanelOwed, PanelWholeLists}
+use Rattle.panel.specs.PanelHistory.{PanelCall, panelStart, PanelOpened, panelRun, panelAfter, panelTold, callOf, panelLedger, registersIn, PanelRival, listOf, updateLeaves, PanelUpdates, PanelOwed, PanelDemand3, PanelWholeLists}
 use Rattle.panel.specs.PanelLaws.{bytesOf, Whole, whole, run-bytes, run-told}
 
 -- any memory of the two sizes serves, with any member, bus and pins that Open takes
@@ -84,48 +84,33 @@ map-join : (xs ys : List PanelCall) → map callOf (xs ++ ys) ≡ map callOf xs 
 map-join [] ys = refl
 map-join (x ∷ xs) ys = ap (λ (l : List Call). callOf x ∷ l) (map-join xs ys)
 
-module _ (m b p : ℕ) (memory : Panel) (o : PanelOpened m b p memory) where
-  pub opened : accepted (openOf m b p .answer) ≡ true
-  opened = open-accepted m b p (memory .host) (o .record-opened)
-
-  so : opens m b p ≡ true
-  unfolding openOf opens
-  so = opened
-
-  start-bytes : panelStart m b p memory ≡ bytesOf (start m b p)
-  start-bytes = ap₂ panelOf (open-bytes m b p (memory .host) (o .record-opened)) (at-reset-bytes m b p (memory .chip) (o .chip-opened))
-
+-- from the bytes of a world for which the invariant of history holds
+module _ (m b p : ℕ) (so : opens m b p ≡ true) (s : List ℕ) (w : World) (h : Holds m b p s w) where
   -- the bytes are those of the record and the chip after the same calls by value
-  pub after-bytes : (calls : List PanelCall) → panelAfter m b p memory calls ≡ bytesOf (worldAfter m b p (map callOf calls))
-  after-bytes calls = ap (λ (w : Panel). panelRun w calls) start-bytes ∙ run-bytes m b p so calls (resetImage m) (start m b p) (start-holds m b p so)
+  pub run-is : (calls : List PanelCall) → panelRun (bytesOf w) calls ≡ bytesOf (run w (map callOf calls))
+  run-is calls = run-bytes m b p so calls s w h
 
   module _ (calls : List PanelCall) where
     abbrev world : World
-    world = worldAfter m b p (map callOf calls)
+    world = run w (map callOf calls)
+
+    abbrev asked : List ℕ
+    asked = entries m s (told w (map callOf calls))
 
     -- the ledger is the same, too
-    ledger-is : panelLedger m b p memory calls ≡ ledgerAfter m b p (map callOf calls)
-    ledger-is =
-        ap (λ (w : Panel). ledger m (panelTold w calls)) start-bytes
-        ∙ ap (ledger m) (run-told m b p so calls (resetImage m) (start m b p) (start-holds m b p so))
+    ledger-is : entries m s (panelTold (bytesOf w) calls) ≡ asked
+    ledger-is = ap (entries m s) (run-told m b p so calls s w h)
 
-    holds : Holds m b p (ledgerAfter m b p (map callOf calls)) world
-    holds = history-holds m b p so (map callOf calls)
+    holds : Holds m b p asked world
+    holds = run-holds m b p so (map callOf calls) s w h
 
     sizes : Whole world
-    sizes = whole m b p so (ledgerAfter m b p (map callOf calls)) world holds
-
-    -- the sizes stay
-    pub record-size : length (panelAfter m b p memory calls .host) ≡ 1819
-    record-size = ap (λ (w : Panel). length (w .host)) (after-bytes calls) ∙ record-length (world .host) (sizes .settings) (sizes .image)
-
-    pub chip-size : length (panelAfter m b p memory calls .chip) ≡ 911
-    chip-size = ap (λ (w : Panel). length (w .chip)) (after-bytes calls) ∙ chip-length (world .chip) (sizes .registers)
+    sizes = whole m b p so asked world holds
 
     is-so : soundOf (world .host) ≡ true
     is-so =
-        ap (λ (w : World). soundOf (w .host)) (holds .is)
-        ∙ is-sound (recordOf (headerOf m b p) (ledgerAfter m b p (map callOf calls)) (holds .image)) (record { opened = so; settings = holds .settings-fit; image = holds .image-fit })
+        ap (λ (x : World). soundOf (x .host)) (holds .is)
+        ∙ is-sound (recordOf (headerOf m b p) asked (holds .image)) (record { opened = so; settings = holds .settings-fit; image = holds .image-fit })
 
     module _ (buffer : List ℕ) (n t : ℕ) where
       -- what an Update of the record answers, and what it leaves
@@ -135,47 +120,47 @@ module _ (m b p : ℕ) (memory : Panel) (o : PanelOpened m b p memory) where
       abbrev left : ListOutcome
       left = listOutcomeOf (updateOf (world .host) (length buffer)) (updateBuffer (world .host) buffer) n t
 
-      left-is : updateAfter m b p memory calls buffer n t ≡ left
+      left-is : updateLeaves (panelRun (bytesOf w) calls) buffer n t ≡ left
       left-is =
-          ap (λ (w : Panel). updateCall (w .host) buffer n t) (after-bytes calls)
+          ap (λ (x : Panel). updateLeaves x buffer n t) (run-is calls)
           ∙ send-call (world .host) (sizes .settings) (sizes .image) updating buffer n t
 
       -- with a buffer of 1,174 bytes an Update always answers 0
-      pub room : 1174 ≤ length buffer → updateAfter m b p memory calls buffer n t .answer ≡ 0
+      room-here : 1174 ≤ length buffer → updateLeaves (panelRun (bytesOf w) calls) buffer n t .answer ≡ 0
       unfolding sendOf
-      room h = ap (λ (x : ListOutcome). x .answer) left-is ∙ ap listNumber (always-room (world .host) is-so (length buffer) h)
+      room-here k = ap (λ (x : ListOutcome). x .answer) left-is ∙ ap listNumber (always-room (world .host) is-so (length buffer) k)
 
   -- ---- an Update that answered 0
 
-  module _ (calls before behind : List PanelCall) (buffer : List ℕ) (n t needed : ℕ) (u : PanelUpdates m b p memory calls before behind buffer n t needed) where
+  module _ (calls before behind : List PanelCall) (buffer : List ℕ) (n t needed : ℕ) (u : PanelUpdates (bytesOf w) calls before behind buffer n t needed) where
     abbrev stores : ListAnswer
     stores = answer before buffer n t
 
-    updates : Updates m b p (map callOf calls) (map callOf before) (map callOf behind) buffer (nAfter stores n) (tAfter stores t)
+    updates : Updates w (map callOf calls) (map callOf before) (map callOf behind) buffer (nAfter stores n) (tAfter stores t)
     updates = record {
       calls-are = ap (map callOf) (u .calls-are) ∙ map-join before (record { request = Update; lent = buffer; n = n; t = t; needed = needed } ∷ behind);
       answers = ap answers.the-variants.List (zero-stores stores n t (ap (λ (x : ListOutcome). x .answer) (sym (left-is before buffer n t)) ∙ u .answers));
     }
 
-    names-so : AllAllowed b p (headerIn (panelAfter m b p memory before .host)) (transactions (listOf (updateAfter m b p memory before buffer n t)))
+    names-so : AllAllowed b p (headerIn (panelRun (bytesOf w) before .host)) (transactions (listOf (updateLeaves (panelRun (bytesOf w) before) buffer n t)))
     names-so =
-        subst (λ (x : ListOutcome). AllAllowed b p (headerIn (panelAfter m b p memory before .host)) (transactions (listOf x))) (sym (left-is before buffer n t))
+        subst (λ (x : ListOutcome). AllAllowed b p (headerIn (panelRun (bytesOf w) before .host)) (transactions (listOf x))) (sym (left-is before buffer n t))
         (subst (λ (x : Header). AllAllowed b p x (transactions (listOf (left before buffer n t))))
-        (sym (ap (λ (w : Panel). headerIn (w .host)) (after-bytes before) ∙ header-is (world before .host)))
-        (whole-lists m b p opened (map callOf calls) .names (map callOf before) (map callOf behind) buffer (nAfter stores n) (tAfter stores t) updates))
+        (sym (ap (λ (x : Panel). headerIn (x .host)) (run-is before) ∙ header-is (world before .host)))
+        (holds-owes m b p so s w h (map callOf calls) .names (map callOf before) (map callOf behind) buffer (nAfter stores n) (tAfter stores t) updates))
 
-  module _ (calls before : List PanelCall) (buffer : List ℕ) (n t needed : ℕ) (u : PanelUpdates m b p memory calls before [] buffer n t needed) where
+  module _ (calls before : List PanelCall) (buffer : List ℕ) (n t needed : ℕ) (u : PanelUpdates (bytesOf w) calls before [] buffer n t needed) where
     abbrev found : ListOutcome
     found = left before buffer n t
 
     -- the claim by value, and in it the worlds before and after the Update
-    claim : Owed m b p (ledgerAfter m b p (map callOf calls)) (world before) (world calls) (listOf found) (found .n) (found .t)
-    claim = whole-lists m b p opened (map callOf calls) .last (map callOf before) buffer (found .n) (found .t) (updates calls before [] buffer n t needed u)
+    claim : Owed m b p (asked calls) (world before) (world calls) (listOf found) (found .n) (found .t)
+    claim = holds-owes m b p so s w h (map callOf calls) .last (map callOf before) buffer (found .n) (found .t) (updates calls before [] buffer n t needed u)
 
     -- on the bytes of those worlds
-    owed-bytes : PanelOwed m b p memory (ledgerAfter m b p (map callOf calls)) (bytesOf (world before)) (bytesOf (world calls)) found
+    owed-bytes : PanelOwed m b p (asked calls) (bytesOf (world before)) (bytesOf (world calls)) found
     owed-bytes = record {
-      values = λ e. subst (λ (x : List ℕ). SameWritable m x (ledgerAfter m b p (map callOf calls))) (sym (registers-are (world calls .chip))) (claim .values e);
+      values = λ e. subst (λ (x : List ℕ). SameWritable m x (asked calls)) (sym (registers-are (world calls .chip))) (claim .values e);
       fewest = λ l v. claim .fewest l (to-values m b p (world before) (world calls) (sizes before .registers) l v);
       fewest-writes = λ l v e. claim .fewest-writes l (to-values m b p (world before) (world calls) (sizes before .registers) l v) e;
       own = to-bytes m b p (world before) (world calls) (sizes before .registers) (listOf found) (claim .own);
@@ -183,21 +168,87 @@ module _ (m b p : ℕ) (memory : Panel) (o : PanelOpened m b p memory) where
       own-bytes = claim .own-bytes;
     }
 
-    last-so : PanelOwed m b p memory (panelLedger m b p memory calls) (panelAfter m b p memory before) (panelAfter m b p memory calls) (updateAfter m b p memory before buffer n t)
-    last-so =
-        subst (λ (s : List ℕ). PanelOwed m b p memory s (panelAfter m b p memory before) (panelAfter m b p memory calls) (updateAfter m b p memory before buffer n t)) (sym (ledger-is calls))
-        (subst (λ (w : Panel). PanelOwed m b p memory (ledgerAfter m b p (map callOf calls)) w (panelAfter m b p memory calls) (updateAfter m b p memory before buffer n t)) (sym (after-bytes before))
-        (subst (λ (w : Panel). PanelOwed m b p memory (ledgerAfter m b p (map callOf calls)) (bytesOf (world before)) w (updateAfter m b p memory before buffer n t)) (sym (after-bytes calls))
-        (subst (λ (x : ListOutcome). PanelOwed m b p memory (ledgerAfter m b p (map callOf calls)) (bytesOf (world before)) (bytesOf (world calls)) x) (sym (left-is before buffer n t)) owed-bytes)))
+    abbrev earlier : Panel
+    earlier = panelRun (bytesOf w) before
 
-    -- No lamp is stale: each one reads from the chip's bytes what the ledger says.
-    pub no-lamp-stale : wantsOn (panelLedger m b p memory calls) ≡ true → (l s : ℕ) → isDot m l s ≡ true →
-        SameLamp (registersIn (panelAfter m b p memory calls .chip)) (panelLedger m b p memory calls) l s
-    no-lamp-stale e = same-lamp m (registersIn (panelAfter m b p memory calls .chip)) (panelLedger m b p memory calls) (last-so .values e)
+    abbrev now : Panel
+    now = panelRun (bytesOf w) calls
+
+    last-so : PanelOwed m b p (entries m s (panelTold (bytesOf w) calls)) earlier now (updateLeaves earlier buffer n t)
+    last-so =
+        subst (λ (x : List ℕ). PanelOwed m b p x earlier now (updateLeaves earlier buffer n t)) (sym (ledger-is calls))
+        (subst (λ (x : ListOutcome). PanelOwed m b p (asked calls) earlier now x) (sym (left-is before buffer n t))
+        (subst (λ (x : Panel). PanelOwed m b p (asked calls) x now found) (sym (run-is before))
+        (subst (λ (x : Panel). PanelOwed m b p (asked calls) (bytesOf (world before)) x found) (sym (run-is calls)) owed-bytes)))
+
+  -- Demand 3 is owed from there
+  pub panel-owes : (calls : List PanelCall) → PanelDemand3 m b p s (bytesOf w) calls
+  panel-owes calls = record {
+    names = λ before behind buffer n t needed u. names-so calls before behind buffer n t needed u;
+    last = λ before buffer n t needed u. last-so calls before buffer n t needed u;
+  }
+
+-- ---- after an accepted Open
+
+module _ (m b p : ℕ) (memory : Panel) (o : PanelOpened m b p memory) where
+  pub opened : accepted (openOf m b p .answer) ≡ true
+  opened = open-accepted m b p (memory .host) (o .record-opened)
+
+  pub takes : opens m b p ≡ true
+  unfolding openOf opens
+  takes = opened
+
+  pub start-bytes : panelStart m b p memory ≡ bytesOf (start m b p)
+  start-bytes = ap₂ panelOf (open-bytes m b p (memory .host) (o .record-opened)) (at-reset-bytes m b p (memory .chip) (o .chip-opened))
+
+  begins : Holds m b p (resetImage m) (start m b p)
+  begins = start-holds m b p takes
+
+  -- the bytes are those of the record and the chip after the same calls by value
+  pub after-bytes : (calls : List PanelCall) → panelAfter m b p memory calls ≡ bytesOf (worldAfter m b p (map callOf calls))
+  after-bytes calls = ap (λ (x : Panel). panelRun x calls) start-bytes ∙ run-is m b p takes (resetImage m) (start m b p) begins calls
+
+  -- and the ledger is the same
+  pub ledger-after : (calls : List PanelCall) → panelLedger m b p memory calls ≡ ledgerAfter m b p (map callOf calls)
+  ledger-after calls =
+      ap (λ (x : Panel). ledger m (panelTold x calls)) start-bytes ∙ ledger-is m b p takes (resetImage m) (start m b p) begins calls
+
+  module _ (calls : List PanelCall) where
+    pub whole-after : Whole (worldAfter m b p (map callOf calls))
+    whole-after = sizes m b p takes (resetImage m) (start m b p) begins calls
+
+    -- the sizes stay
+    pub record-size : length (panelAfter m b p memory calls .host) ≡ 1819
+    record-size =
+        ap (λ (x : Panel). length (x .host)) (after-bytes calls)
+        ∙ record-length (worldAfter m b p (map callOf calls) .host) (whole-after .settings) (whole-after .image)
+
+    pub chip-size : length (panelAfter m b p memory calls .chip) ≡ 911
+    chip-size =
+        ap (λ (x : Panel). length (x .chip)) (after-bytes calls) ∙ chip-length (worldAfter m b p (map callOf calls) .chip) (whole-after .registers)
+
+    -- with a buffer of 1,174 bytes an Update always answers 0
+    pub room : (buffer : List ℕ) (n t : ℕ) → 1174 ≤ length buffer → updateLeaves (panelAfter m b p memory calls) buffer n t .answer ≡ 0
+    room buffer n t k =
+        ap (λ (x : Panel). updateLeaves (panelRun x calls) buffer n t .answer) start-bytes
+        ∙ room-here m b p takes (resetImage m) (start m b p) begins calls buffer n t k
 
 -- Demand 3 for a C program
 pub panel-whole-lists : PanelWholeLists
-panel-whole-lists m b p memory o calls = record {
-  names = λ before behind buffer n t needed u. names-so m b p memory o calls before behind buffer n t needed u;
-  last = λ before buffer n t needed u. last-so m b p memory o calls before buffer n t needed u;
-}
+panel-whole-lists m b p memory o calls =
+    subst (λ (x : Panel). PanelDemand3 m b p (resetImage m) x calls) (sym (start-bytes m b p memory o))
+    (panel-owes m b p (takes m b p memory o) (resetImage m) (start m b p) (begins m b p memory o) calls)
+
+-- lamp by lamp
+pub lamps-owed : (m b p : ℕ) (s : List ℕ) (w : Panel) (calls : List PanelCall) → PanelDemand3 m b p s w calls →
+    (before : List PanelCall) (buffer : List ℕ) (n t needed : ℕ) → PanelUpdates w calls before [] buffer n t needed →
+    wantsOn (entries m s (panelTold w calls)) ≡ true → (l k : ℕ) → isDot m l k ≡ true →
+    SameLamp (registersIn (panelRun w calls .chip)) (entries m s (panelTold w calls)) l k
+lamps-owed m b p s w calls d before buffer n t needed u on =
+    same-lamp m (registersIn (panelRun w calls .chip)) (entries m s (panelTold w calls)) (d .last before buffer n t needed u .values on)
+
+-- No lamp is stale: each one reads from the chip's bytes what the ledger says.
+pub no-lamp-stale : (m b p : ℕ) (memory : Panel) → PanelOpened m b p memory → (calls before : List PanelCall) (buffer : List ℕ) (n t needed : ℕ) →
+    PanelUpdates (panelStart m b p memory) calls before [] buffer n t needed → wantsOn (panelLedger m b p memory calls) ≡ true → (l k : ℕ) → isDot m l k ≡ true →
+    SameLamp (registersIn (panelAfter m b p memory calls .chip)) (panelLedger m b p memory calls) l k
+no-lamp-stale m b p memory o calls = lamps-owed m b p (resetImage m) (panelStart m b p memory) calls (panel-whole-lists m b p memory o calls)
