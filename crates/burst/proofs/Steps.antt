@@ -1,5 +1,5 @@
--- One lemma for each answer of the head's reader and of the size reader, for each end of the stores of a size, and for each turn
--- of the loop over the lengths.
+-- One lemma for each answer of the head's reader, of the size reader and of the place of a transaction, for each end of the stores
+-- of a size, and for each turn of the loops over the lengths.
 -- Assumes nothing.
 use mathlib.Core.Path.{_≡_, refl, sym, ap, _∙_}
 use mathlib.Core.Bool.{Bool, true, false, cond, not, and-true, and-false}
@@ -8,13 +8,15 @@ use Prim.Native.Nat.{ℕ, suc, _+_, _-_, _*_, _/_, _%_, _≤_, _<_}
 use native.Mathlib.Nat.{mod-eq-of-lt, add-zero, zero-add, sub-zero}
 use native.Mathlib.Numerals.{add-one}
 use native.Mathlib.Omega.{arith}
-use borrow.Author.Tests.{eq-eqb, ne-eqb, le-leb, lt-leb, not-true, not-false}
+use borrow.Author.Tests.{eq-eqb, ne-eqb, le-leb, lt-leb, lt-ltb, le-ltb, not-true, not-false}
 use lib.Dec.{leb, eqb}
 use lib.ListN.{length, set}
 use lib.Seq.{set-out}
+use Rattle.burst.specs.declared.places.Place.the-variants.{At, BadSizes, NoIndex}
 use Rattle.burst.specs.declared.sizes.Sizes.the-variants.{Good, Bad}
-use Rattle.burst.specs.Burst.{size16, putSize, nOf, tOf, lengthsFrom, lengths, sum, allAtLeast3, lengthsGood, sizesGood, sizesOf, headAddress}
-use Rattle.burst.specs.BurstLaws.{size-small, lengths-none, lengths-step}
+use Rattle.burst.specs.Burst.{size16, putSize, nOf, tOf, lengthsFrom, lengths, sum, allAtLeast3, lengthsGood, sizesGood, sizesOf, bytesBefore, offsetAt, placeOf, headAddress}
+use Rattle.burst.specs.BurstLaws.{size-small, lengths-none, lengths-step, GoodSizes, sizes-bad}
+use Rattle.burst.specs.PlaceLaws.{length-at, bytes-none, bytes-next, bytes-most}
 
 -- ---- heads
 
@@ -100,3 +102,53 @@ sizes-lengths l n t b en et h s e f = sizes-by l n t false en et h s (sym (not-t
 pub sizes-all : (l : List ℕ) (n t : ℕ) (b : Bool) → n ≡ size16 l 0 → t ≡ size16 l 2 → 4 ≤ length l → length l ≡ 4 + 2 * n + t →
     b ≡ lengthsGood (lengthsFrom l 4 n) t → not b ≡ false → Good n t ≡ sizesOf l
 sizes-all l n t b en et h s e f = sizes-by l n t true en et h s (sym (not-false b f) ∙ e)
+
+-- ---- the loop over the lengths before a transaction
+
+-- i lengths are read, and add up to s
+pub record Summed (l : List ℕ) (index s i : ℕ) : Type 0 where
+  pub below : i ≤ index
+  pub known : index < nOf l
+  pub few : index < 65536
+  pub small : s ≤ 65536 * i
+  pub adds : s ≡ bytesBefore l i
+
+pub summed-none : (l : List ℕ) (index : ℕ) → index < nOf l → Summed l index 0 0
+unfolding nOf
+summed-none l index h = record { below = omega arith; known = h; few = omega (arith, size-small l 0); small = omega arith; adds = sym (bytes-none l) }
+
+pub summed-more : (l : List ℕ) (index s i k : ℕ) → i < index → k ≡ size16 l (4 + 2 * i) → Summed l index s i → Summed l index (s + k) (i + 1)
+summed-more l index s i k h e c =
+    let adds : s + k ≡ bytesBefore l (suc i) = omega (arith, bytes-next l i, length-at l i (omega arith), c .adds) in
+    record {
+      below = omega arith;
+      known = c .known;
+      few = c .few;
+      small = omega (arith, size-small l (4 + 2 * i), c .small);
+      adds = rw add-one adds;
+    }
+
+pub summed-all : (l : List ℕ) (index s i : ℕ) → index ≤ i → Summed l index s i → s ≡ bytesBefore l index
+summed-all l index s i h c =
+    let end : i ≡ index = omega arith in
+    rw end at (c .adds)
+
+-- ---- the answers of the place of a transaction
+
+pub before-small : (l : List ℕ) (n t i before : ℕ) → GoodSizes l n t → before ≡ bytesBefore l i → before < 65536
+before-small l n t i before g e = omega (arith, bytes-most l i (g .good), g .t-is, g .t-small)
+
+pub place-bad : (l : List ℕ) (i : ℕ) → sizesOf l ≡ Bad → BadSizes ≡ placeOf l i
+unfolding placeOf
+place-bad l i e = rw (sizes-bad l e) refl
+
+pub place-none : (l : List ℕ) (n t i : ℕ) → GoodSizes l n t → n ≤ i → NoIndex ≡ placeOf l i
+unfolding placeOf
+place-none l n t i g h = rw (g .good, g .n-is, le-ltb i n h) refl
+
+pub place-at : (l : List ℕ) (n t i before k : ℕ) → GoodSizes l n t → i < n → before ≡ bytesBefore l i → k ≡ size16 l (4 + 2 * i) →
+    At (4 + 2 * n + before) k ≡ placeOf l i
+unfolding placeOf offsetAt
+place-at l n t i before k g h e f =
+    let below : i < nOf l = omega (arith, g .n-is) in
+    rw (g .good, lt-ltb i (nOf l) below, length-at l i below, ← f, ← e, g .n-is) refl

@@ -5,9 +5,11 @@
 use mathlib.Core.Bool.{Bool, true, cond, _&&_}
 use mathlib.Core.List.{List, [], _∷_, _++_, map}
 use Prim.Native.Nat.{ℕ, zero, suc, _+_, _*_, _/_, _%_}
-use lib.Dec.{leb, eqb}
+use lib.Dec.{ltb, leb, eqb}
 use lib.ListN.{length, getD, take, drop}
 use lib.Seq.{sets}
+use Rattle.burst.specs.declared.places.Place.{Place}
+use Rattle.burst.specs.declared.places.Place.the-variants.{At, BadSizes, NoIndex}
 use Rattle.burst.specs.declared.sizes.Sizes.{Sizes}
 use Rattle.burst.specs.declared.sizes.Sizes.the-variants.{Good, Bad}
 
@@ -81,6 +83,24 @@ sizesGood l = leb 4 (length l) && (lengthsGood (lengths l) (tOf l) && eqb (lengt
 -- what the size reader answers
 unfoldable pub sizesOf : List ℕ → Sizes
 sizesOf l = cond (sizesGood l) (Good (nOf l) (tOf l)) Bad
+
+-- ---- The place of a transaction
+
+-- the length with this number, counted from 0
+unfoldable pub lengthAt : List ℕ → ℕ → ℕ
+lengthAt l i = getD (lengths l) i 0
+
+-- the bytes of the transactions before it together
+unfoldable pub bytesBefore : List ℕ → ℕ → ℕ
+bytesBefore l i = sum (take i (lengths l))
+
+-- where the transaction with this number begins: behind n, t, the lengths and the transactions before it
+unfoldable pub offsetAt : List ℕ → ℕ → ℕ
+offsetAt l i = 4 + 2 * nOf l + bytesBefore l i
+
+-- what is answered of a number: of good sizes and a number below n, where the transaction stands
+unfoldable pub placeOf : List ℕ → ℕ → Place
+placeOf l i = cond (sizesGood l) (cond (ltb i (nOf l)) (At (offsetAt l i) (lengthAt l i)) NoIndex) BadSizes
 
 -- ---- Heads
 

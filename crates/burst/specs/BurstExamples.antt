@@ -5,8 +5,9 @@ use mathlib.Core.Path.{_≡_, refl}
 use mathlib.Core.Bool.{true, false}
 use mathlib.Core.List.{List, [], _∷_, map}
 use Prim.Native.Nat.{ℕ}
+use Rattle.burst.specs.declared.places.Place.the-variants.{At, BadSizes, NoIndex}
 use Rattle.burst.specs.declared.sizes.Sizes.the-variants.{Good, Bad}
-use Rattle.burst.specs.Burst.{Burst, byteAt, size16, putSize, nOf, tOf, lengthsFrom, lengths, cutFrom, transactions, lengthsGood, sizesGood, sizesOf, headFirst, headSecond, headAddress, headWrites, headSelect, transactionOf, burstOf, busBytes, listOf, encode}
+use Rattle.burst.specs.Burst.{Burst, byteAt, size16, putSize, nOf, tOf, lengthsFrom, lengths, cutFrom, transactions, lengthsGood, sizesGood, sizesOf, lengthAt, bytesBefore, offsetAt, placeOf, headFirst, headSecond, headAddress, headWrites, headSelect, transactionOf, burstOf, busBytes, listOf, encode}
 
 bench : List Burst
 bench =
@@ -71,6 +72,27 @@ sizes-refused : map sizesOf (
     ≡ Bad ∷ Bad ∷ Bad ∷ Bad ∷ []
 unfolding sizesOf sizesGood lengthsGood lengths lengthsFrom nOf tOf size16 byteAt
 sizes-refused = refl
+
+-- ---- The place of a transaction
+
+-- the bench list: three transactions of three bytes behind the ten bytes of sizes, and no fourth
+bench-places : map (placeOf bench-bytes) (0 ∷ 1 ∷ 2 ∷ 3 ∷ []) ≡ At 10 3 ∷ At 13 3 ∷ At 16 3 ∷ NoIndex ∷ []
+unfolding placeOf offsetAt bytesBefore lengthAt sizesGood lengthsGood lengths lengthsFrom nOf tOf size16 byteAt bench-bytes
+bench-places = refl
+
+-- lengths that differ: the second begins where the first ends
+unlike-places : map (placeOf (2 ∷ 0 ∷ 7 ∷ 0 ∷ 4 ∷ 0 ∷ 3 ∷ 0 ∷ 0x84 ∷ 0 ∷ 1 ∷ 2 ∷ 0x80 ∷ 0 ∷ 1 ∷ [])) (0 ∷ 1 ∷ 2 ∷ []) ≡ At 8 4 ∷ At 12 3 ∷ NoIndex ∷ []
+unfolding placeOf offsetAt bytesBefore lengthAt sizesGood lengthsGood lengths lengthsFrom nOf tOf size16 byteAt
+unlike-places = refl
+
+-- a list that lacks its last byte has no places, whatever the number; the empty list has good sizes and no transaction
+damaged-places : map (placeOf (1 ∷ 0 ∷ 3 ∷ 0 ∷ 3 ∷ 0 ∷ 0x80 ∷ 0 ∷ [])) (0 ∷ 1 ∷ []) ≡ BadSizes ∷ BadSizes ∷ []
+unfolding placeOf sizesGood lengthsGood lengths lengthsFrom nOf tOf size16 byteAt
+damaged-places = refl
+
+empty-places : placeOf (0 ∷ 0 ∷ 0 ∷ 0 ∷ []) 0 ≡ NoIndex
+unfolding placeOf sizesGood lengthsGood lengths lengthsFrom nOf tOf size16 byteAt
+empty-places = refl
 
 -- ---- Heads
 

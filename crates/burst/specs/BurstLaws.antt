@@ -14,11 +14,11 @@ use lib.Seq.{length-take-le, getD-at, drop-at, getD-append-add, take-append-seam
 use Rattle.burst.specs.declared.sizes.Sizes.the-variants.{Good, Bad}
 use Rattle.burst.specs.Burst.{Burst, byteAt, size16, sizeBytes, nOf, tOf, lengthsFrom, lengths, cutFrom, transactions, sum, allAtLeast3, lengthsGood, sizesGood, sizesOf, headFirst, headSecond, headAddress, headWrites, headSelect, transactionOf, burstOf, busBytes, sizesBytes, joined, listOf, encode}
 
-and-left : (a b : Bool) → (a && b) ≡ true → a ≡ true
+pub and-left : (a b : Bool) → (a && b) ≡ true → a ≡ true
 and-left true b e = refl
 and-left false b e = e
 
-and-right : (a b : Bool) → (a && b) ≡ true → b ≡ true
+pub and-right : (a b : Bool) → (a && b) ≡ true → b ≡ true
 and-right true b e = e
 and-right false b e = absurd (false≢true e)
 

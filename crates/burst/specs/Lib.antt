@@ -1,3 +1,4 @@
 pub mod Burst
 pub mod BurstLaws
+pub mod PlaceLaws
 pub mod BurstExamples

@@ -7,12 +7,15 @@
 //
 // Every function here takes any bytes and any number that its types allow. Bus 0 is I2C; any other number is SPI.
 mod heads;
+mod places;
 mod sizes;
 
 pub use heads::head_address;
 pub use heads::head_first;
 pub use heads::head_second;
 pub use heads::head_writes;
+pub use places::Place;
+pub use places::transaction;
 pub use sizes::Sizes;
 pub use sizes::put_size;
 pub use sizes::read_sizes;

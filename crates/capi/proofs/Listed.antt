@@ -1,18 +1,22 @@
--- What a call answers and stores that writes a list.
+-- What a call answers and stores that writes a list, or finds a transaction in one.
 -- Assumes nothing.
 use mathlib.Core.Path.{_≡_, refl, sym, ap, _∙_}
 use mathlib.Core.Bool.{Bool, true, false, cond, _&&_}
 use mathlib.Core.List.{List, _++_}
-use Prim.Native.Nat.{ℕ}
+use Prim.Native.Nat.{ℕ, _+_, _<_, _^_}
 use native.Mathlib.Omega.{arith}
 use borrow.Author.Tests.{eq-eqb}
 use lib.Dec.{leb, eqb}
 use lib.ListN.{length, take}
 use Rattle.map.specs.declared.refusals.Refusal.{Refusal}
-use Rattle.map.specs.declared.refusals.Refusal.the-variants.{BufferShort, Unsound}
+use Rattle.map.specs.declared.refusals.Refusal.the-variants.{BufferShort, ListSizes, Unsound, NoTransaction}
 use Rattle.map.specs.Refusals.{refusalNumber}
 use Rattle.map.specs.Images.{resetImage}
-use Rattle.burst.specs.Burst.{busBytes}
+use Rattle.burst.specs.declared.places.Place.{Place}
+use Rattle.burst.specs.declared.places.Place.the-variants.{At, BadSizes, NoIndex}
+use Rattle.burst.specs.Burst.{busBytes, placeOf}
+use Rattle.burst.specs.BurstLaws.{good-sizes}
+use Rattle.burst.specs.PlaceLaws.{transaction-stands, placed}
 use Rattle.host.specs.declared.Header.{Header}
 use Rattle.host.specs.declared.Record.{Record}
 use Rattle.host.specs.Record.{recordOf, soundOf}
@@ -21,7 +25,8 @@ use Rattle.update.specs.declared.ListAnswer.the-variants.{Listed, Short, Refuse
 use Rattle.update.specs.Update.{isListed, listNumber, listSize, Sending, sendAnswer, sendOf, sendBuffer, writesOf, updateAnswer, command, resetting, commandAnswer}
 use Rattle.update.specs.SendLaws.{command-answers}
 use Rattle.update.specs.BoundLaws.{bus-most, writes-few, size-most}
-use Rattle.capi.specs.Capi.{headerIn, settingsIn, imageIn, recordIn, recordBytes, listAnswer, listBytes, bufferAfter, stored, nAfter, tAfter, neededAfter, Fits}
+use Rattle.capi.specs.Capi.{headerIn, settingsIn, imageIn, recordIn, recordBytes, listAnswer, listBytes, bufferAfter, stored, nAfter, tAfter, neededAfter, Fits, placeNumbers}
+use Rattle.capi.specs.Calls.{transactionCall}
 use Rattle.capi.specs.CapiLaws.{image-stored, record-sized, refused-stores}
 use Rattle.capi.proofs.InPlace.{putPart, part-length, image-put}
 
@@ -143,3 +148,31 @@ needed-short answer needed new e = rw e refl
 
 pub needed-refused : (answer : ListAnswer) (needed : ℕ) (refusal : Refusal) → answer ≡ Refused refusal → needed ≡ neededAfter answer needed
 needed-refused answer needed refusal e = rw e (sym (refused-stores (refusalNumber BufferShort) 0 refusal needed))
+
+-- ---- a transaction of a list
+
+-- its place fits the 32 bits that each number is stored in
+pub place-small : (list : List ℕ) (index first count : ℕ) → placeOf list index ≡ At first count → first + count < 2 ^ 32
+place-small list index first count e =
+    let p = placed list index first count e in
+    let g = good-sizes list (p .good) in
+    omega (arith, transaction-stands list index (p .good) (p .below) .inside, p .offset-is, p .length-is, g .size, g .n-small, g .t-small)
+
+module _ (list : List ℕ) (index offset size : ℕ) (place : Place) (e : place ≡ placeOf list index) where
+  -- what a call answers and leaves
+  abbrev pub Walks : ℕ → ℕ → ℕ → Type 0
+  Walks number first count =
+      (number ≡ transactionCall list index offset size .answer)
+      × ((first ≡ transactionCall list index offset size .offset) × (count ≡ transactionCall list index offset size .size))
+
+  pub walks-at : (first count : ℕ) → place ≡ At first count → Walks 0 first count
+  unfolding placeNumbers
+  walks-at first count q = rw (sym e ∙ q) (refl, (refl, refl))
+
+  pub walks-bad : (number : ℕ) → place ≡ BadSizes → number ≡ refusalNumber ListSizes → Walks number offset size
+  unfolding placeNumbers
+  walks-bad number q n = rw (sym e ∙ q) (n, (refl, refl))
+
+  pub walks-none : (number : ℕ) → place ≡ NoIndex → number ≡ refusalNumber NoTransaction → Walks number offset size
+  unfolding placeNumbers
+  walks-none number q n = rw (sym e ∙ q) (n, (refl, refl))

@@ -5,12 +5,13 @@ use mathlib.Core.List.{List}
 use Prim.Native.Nat.{ℕ}
 use lib.ListN.{length}
 use Rattle.map.specs.declared.refusals.Answer.the-variants.{Accepted}
+use Rattle.burst.specs.Burst.{placeOf}
 use Rattle.calls.specs.declared.Setting.{Setting}
 use Rattle.host.specs.Record.{openOf, settingOf, powerLostOf}
 use Rattle.host.specs.declared.Record.{Record}
 use Rattle.update.specs.Update.{Sending, sendOf, sendBuffer, updating, updateOf, resetting, clearingOpens, clearingShorts}
 use Rattle.chip.specs.Chip.{atResetOf, feedOf}
-use Rattle.capi.specs.Capi.{recordIn, chipIn, Outcome, settingOutcome, chipOutcome, listAnswer, neededAfter, ListOutcome, listOutcome}
+use Rattle.capi.specs.Capi.{recordIn, chipIn, Outcome, settingOutcome, chipOutcome, listAnswer, neededAfter, ListOutcome, listOutcome, PlaceOutcome, placeOutcome}
 
 -- ---- The record and its settings
 
@@ -52,6 +53,10 @@ clearOpensCall = sendCall clearingOpens
 -- lp586x_clear_shorts
 abbrev pub clearShortsCall : List ℕ → List ℕ → ℕ → ℕ → ListOutcome
 clearShortsCall = sendCall clearingShorts
+
+-- lp586x_transaction
+abbrev pub transactionCall : List ℕ → ℕ → ℕ → ℕ → PlaceOutcome
+transactionCall list index offset size = placeOutcome (placeOf list index) offset size
 
 -- ---- The chip model
 

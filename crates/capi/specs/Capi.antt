@@ -8,8 +8,10 @@ use lib.Dec.{eqb}
 use lib.ListN.{length, getD, take, drop}
 use Rattle.map.specs.declared.refusals.Answer.{Answer}
 use Rattle.map.specs.declared.refusals.Answer as answers
-use Rattle.map.specs.declared.refusals.Refusal.the-variants.{BufferShort, Unsound}
+use Rattle.map.specs.declared.refusals.Refusal.the-variants.{BufferShort, ListSizes, Unsound, NoTransaction}
 use Rattle.map.specs.Refusals.{refusalNumber, answerNumber, accepted}
+use Rattle.burst.specs.declared.places.Place.{Place}
+use Rattle.burst.specs.declared.places.Place.the-variants.{At, BadSizes, NoIndex}
 use Rattle.host.specs.declared.Record.{Record}
 use Rattle.host.specs.declared.Changed.{Changed}
 use Rattle.host.specs.declared.Header.{Header}
@@ -152,3 +154,25 @@ abbrev pub Fits : ListAnswer → Type 0
 Fits (Listed n t) = (n < 2 ^ 32) × (t < 2 ^ 32)
 Fits (Short needed) = needed < 2 ^ 32
 Fits (Refused refusal) = Unit
+
+-- ---- The transactions of a list
+
+-- the number of a place and its values: "11 sizes of a list do not add up", "26 no such transaction"
+unfoldable pub placeNumbers : Place → List ℕ
+placeNumbers (At offset size) = 0 ∷ offset ∷ size ∷ []
+placeNumbers BadSizes = refusalNumber ListSizes ∷ []
+placeNumbers NoIndex = refusalNumber NoTransaction ∷ []
+
+-- what such a call answers, and the two numbers as it leaves them
+pub record PlaceOutcome : Type 0 where
+  pub answer : ℕ
+  pub offset : ℕ
+  pub size : ℕ
+
+-- "0 stores both.": else what stood there stays
+abbrev pub placeOutcome : Place → ℕ → ℕ → PlaceOutcome
+placeOutcome place offset size = record {
+  answer = getD (placeNumbers place) 0 0;
+  offset = getD (placeNumbers place) 1 offset;
+  size = getD (placeNumbers place) 2 size;
+}

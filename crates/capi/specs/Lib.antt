@@ -2,3 +2,4 @@ pub mod Capi
 pub mod Calls
 pub mod CapiLaws
 pub mod CallLaws
+pub mod TransactionLaws

@@ -14,7 +14,8 @@ ghost use Rattle.map.specs.Refusals.{refusalNumber};
 ghost use Rattle.faults.specs.Faults.{answerNumbers, faultsAnswer, faultsResult};
 ghost use Rattle.host.specs.Record.{recordOf};
 ghost use Rattle.update.specs.Update.{updateAnswer, updateOf, updateBuffer};
-ghost use Rattle.capi.specs.Calls.{openCall, settingCall, powerLostCall, updateCall, updateNeeded, resetCall, clearOpensCall, clearShortsCall, chipAtResetCall, chipPowerLostCall, chipFeedCall};
+ghost use Rattle.capi.specs.Calls.{openCall, settingCall, powerLostCall, updateCall, updateNeeded, resetCall, clearOpensCall, clearShortsCall, transactionCall, chipAtResetCall, chipPowerLostCall, chipFeedCall};
+use burst::Place;
 use calls::Setting;
 use host::Header;
 use map::Answer;
@@ -240,6 +241,32 @@ pub extern "C" fn lp586x_clear_shorts(
     let header = records::header(bytes);
     let answer = update::clear_shorts_parts(header, &bytes[3..911], &bytes[911..1819], buffer);
     lists::count(answer, n, t)
+}
+
+#[no_mangle]
+pub extern "C" fn lp586x_transaction(
+    list: &[u8],
+    index: u32,
+    offset: &mut u32,
+    size: &mut u32,
+) -> u32
+    ensures { λ r. ⌜ r ≡ transactionCall (now (list .entry)) index (now (offset .entry)) (now (size .entry)) .answer ⌝ }
+    ensures { λ _. ⌜ now (offset .exit) ≡ transactionCall (now (list .entry)) index (now (offset .entry)) (now (size .entry)) .offset ⌝ }
+    ensures { λ _. ⌜ now (size .exit) ≡ transactionCall (now (list .entry)) index (now (offset .entry)) (now (size .entry)) .size ⌝ }
+{
+    let place = burst::transaction(list, index as usize);
+    match place {
+        Place::At {
+            offset: first,
+            length: count,
+        } => {
+            *offset = first as u32;
+            *size = count as u32;
+            0
+        }
+        Place::BadSizes => map::refusal_number(Refusal::ListSizes) as u32,
+        Place::NoIndex => map::refusal_number(Refusal::NoTransaction) as u32,
+    }
 }
 
 // ---- Lamp faults

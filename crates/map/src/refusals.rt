@@ -30,6 +30,8 @@ pub enum Refusal {
     FaultLength,
     // a record or a chip that is not sound
     Unsound,
+    // an index of n or more, of a list of n transactions
+    NoTransaction,
 }
 
 pub fn refusal_number(refusal: Refusal) -> u8
@@ -49,6 +51,7 @@ pub fn refusal_number(refusal: Refusal) -> u8
         Refusal::ListSizes => 11,
         Refusal::FaultLength => 13,
         Refusal::Unsound => 14,
+        Refusal::NoTransaction => 26,
     }
 }
 
