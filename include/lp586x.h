@@ -7,12 +7,20 @@
  *    7 level too high       8 group above 3 or state above 1
  *    9 length of a scene   10 buffer too short      11 sizes of a list do not add up
  *   13 fault bytes not 67  14 unsound record or chip, or its size is wrong
+ *   26 no such transaction
  * A call checks in the order in which its refusals stand below. A refused call changes no byte that was lent to it; 10 of
  * lp586x_update alone stores the length needed.
  *
  * A record is LP586X_RECORD_SIZE bytes in the caller's memory, a chip of the model LP586X_CHIP_SIZE: static storage, a stack or a file
  * will do. Nothing is allocated and nothing is kept between calls. The memory of two arguments of one call must not overlap, and no
  * pointer may be null, even with length 0.
+ *
+ * Threads: a call uses the memory that it is lent and its own stack, and nothing else. So calls may run at the same time, in interrupts
+ * too, unless one of them changes memory that another one is lent: on one record one call at a time, on different records side by side.
+ * Memory that is lent as const is only read. What differs is said at the call.
+ *
+ * Targets: x86-64 with the System V calling convention; the toolchain writes code for no other. A port needs a back end of Rattle for its
+ * target and a size_t of 64 bits, which the promises take for granted. Byte order is no matter: numbers are taken apart byte by byte.
  *
  * Bytes of a record: member, bus, pins, 908 settings, 908 of the chip as the host believes it. Of a chip: member, bus, pins, 908
  * registers. They are the driver's to change. They are sound if lp586x_open takes the member, bus and pins, and reserved bits and addresses
@@ -29,6 +37,37 @@
 extern "C" {
 #endif
 
+#define LP586X_VERSION "1.0.0"
+#define LP586X_VERSION_MAJOR 1
+#define LP586X_VERSION_MINOR 0
+#define LP586X_VERSION_PATCH 0
+
+/* Members and buses. */
+#define LP586X_LP5860 0u
+#define LP586X_LP5861T 1u
+#define LP586X_LP5864 2u
+#define LP586X_LP5867 3u
+#define LP586X_LP5868T 4u
+#define LP586X_I2C 0u
+#define LP586X_SPI 1u
+
+/* The answers. */
+#define LP586X_OK 0u
+#define LP586X_NO_MEMBER 1u
+#define LP586X_NO_BUS 2u
+#define LP586X_NO_PINS 3u
+#define LP586X_NOT_WRITABLE 4u
+#define LP586X_RESERVED_BIT 5u
+#define LP586X_NO_DOT 6u
+#define LP586X_LEVEL_TOO_HIGH 7u
+#define LP586X_NO_GROUP_OR_STATE 8u
+#define LP586X_SCENE_LENGTH 9u
+#define LP586X_BUFFER_SHORT 10u
+#define LP586X_LIST_SIZES 11u
+#define LP586X_FAULT_LENGTH 13u
+#define LP586X_UNSOUND 14u
+#define LP586X_NO_TRANSACTION 26u
+
 #define LP586X_RECORD_SIZE 1819u
 #define LP586X_CHIP_SIZE 911u
 #define LP586X_REGISTERS 908u
@@ -44,13 +83,15 @@ extern "C" {
 /* ---- The record and its settings */
 
 /* A new record: member 0 LP5860, 1 LP5861T, 2 LP5864, 3 LP5867, 4 LP5868T; bus 0 I2C with the chip's two address pins, 1 SPI with pins 0.
- * Settings and chip image start at the member's reset values. 14 (size), 1, 2, 3. */
+ * Settings and chip image start at the member's reset values: nothing lights before 000h is 01h. The pins are 2 x ADDR1 + ADDR0.
+ * 14 (size), 1, 2, 3. */
 uint32_t lp586x_open(uint8_t *record, size_t record_size, uint32_t member, uint32_t bus, uint32_t pins);
 
 /* One whole register of the settings. 14, 4, 5 (a value above 255 too). */
 uint32_t lp586x_register(uint8_t *record, size_t record_size, uint32_t address, uint32_t value);
 
-/* The level of a dot: 8 bits at data mode 0 or 1 of the settings, else 16 bits. 14, 6, 7. */
+/* The level of a dot: 8 bits at data mode 0 or 1 of the settings, else 16 bits. A new record has data mode 3, where 65,535 is full and 255
+ * is dim, and where the chip shows levels at a pulse on its VSYNC pin; in data mode 0 it shows them at once. 14, 6, 7. */
 uint32_t lp586x_lamp(uint8_t *record, size_t record_size, uint32_t line, uint32_t sink, uint32_t level);
 
 /* The brightness group of a dot, 1 to 3, or 0 for none. 14, 6, 8. */
@@ -69,25 +110,42 @@ uint32_t lp586x_power_lost(uint8_t *record, size_t record_size);
 /* ---- Lists of bus writes
  *
  * A list is n, t, n lengths (two bytes each, low byte first), then n transactions of t bytes together: two head bytes and the data. Send
- * each transaction as it stands. Exactly 4 + 2n + t bytes of the buffer are written. The record takes the chip to have heard them. */
+ * each transaction as it stands. Exactly 4 + 2n + t bytes of the buffer are written. The record takes the chip to have heard them.
+ *
+ * On I2C the first head byte is the bus's own address byte, with the write bit. A bus driver that takes a 7-bit address gets the first
+ * byte >> 1 (40h + 4 x pins + bits 9-8 of the register, so one chip has four) and the bytes from the second on. On SPI each transaction
+ * is one chip select. After the write that turns the chip on, alone and first in its list, the data sheet has a wait of 100 us (t_CHIP_EN).
+ *
+ * Where a transaction fails, the chip is not what the record takes it for, and no later update mends it, since an update sends only what
+ * the record takes to differ. Before the next list of this record is made, do one of these:
+ *   - send the same list again, from its first transaction on;
+ *   - if no byte of data was sent (the first transaction was not begun, or its head was not acknowledged): put back a copy of the
+ *     record from before the call; its changes are still pending;
+ *   - lp586x_reset, its list again and again until it is sent, then lp586x_update. It is dark in between, and right whatever was heard.
+ * lp586x_power_lost does not do: a register whose setting is its reset value would keep what it has. See examples/bus_failure.c. */
 
 /* The shortest list that brings the chip to the settings; t is at most 702. While the settings have the chip off (000h bit 0 clear), it
  * only turns the chip off, and other settings wait. 0 stores n and t; 10 stores the length needed. 14, 10 (buffer under 4 + 2n + t). */
 uint32_t lp586x_update(uint8_t *record, size_t record_size, uint8_t *buffer, size_t buffer_size, uint32_t *n, uint32_t *t, uint32_t *needed);
 
 /* Every register of the chip to its reset value; the settings are kept, so that the next update sends them. 0 stores n and t.
- * 14, 10 (buffer under 9). */
+ * Once its list was sent whole, the record is right again, whatever the chip had heard of lists before. 14, 10 (buffer under 9). */
 uint32_t lp586x_reset(uint8_t *record, size_t record_size, uint8_t *buffer, size_t buffer_size, uint32_t *n, uint32_t *t);
 
-/* The open bits, the short bits of the chip to 0; the record is only read. 0 stores n and t. 14, 10 (buffer under 9). */
+/* The open bits, the short bits of the chip to 0; the record is only read, so these two may run side by side on one. 0 stores n and t.
+ * 14, 10 (buffer under 9). */
 uint32_t lp586x_clear_opens(const uint8_t *record, size_t record_size, uint8_t *buffer, size_t buffer_size, uint32_t *n, uint32_t *t);
 uint32_t lp586x_clear_shorts(const uint8_t *record, size_t record_size, uint8_t *buffer, size_t buffer_size, uint32_t *n, uint32_t *t);
+
+/* Where a transaction stands in a list: length bytes from offset on. The index counts from 0, and the list's size is 4 + 2n + t, not that
+ * of a buffer that holds it. 0 stores both. 11 (as lp586x_chip_feed), 26 (an index of n or more). */
+uint32_t lp586x_transaction(const uint8_t *list, size_t list_size, uint32_t index, uint32_t *offset, uint32_t *length);
 
 /* ---- Lamp faults */
 
 /* The 67 bytes 064h to 0A6h as read from the chip: the first 198 bytes of the result become, by dot number, 0 sound, 1 open, 2 short,
  * 3 both, 4 no such dot. opens_agree is 1 if bit 1 of 064h says whether a dot is open, shorts_agree if bit 0 does for short, else 0.
- * 1, 13, 10 (result under 198). */
+ * No record is used. 1, 13, 10 (result under 198). */
 uint32_t lp586x_faults(uint32_t member, const uint8_t *bytes, size_t bytes_size, uint8_t *result, size_t result_size, uint32_t *opens_agree, uint32_t *shorts_agree);
 
 /* ---- The chip model, for tests */

@@ -5,9 +5,6 @@
 #include "groups.h"
 #include "world.h"
 
-enum { I2C, SPI };
-enum { LP5860, LP5861T, LP5864, LP5867, LP5868T };
-
 static uint8_t list[4096];
 static size_t list_size;
 
@@ -56,7 +53,7 @@ static void expect(const struct world *world, uint32_t address, uint8_t value)
 /* A chip on I2C that is enabled. */
 static void start_on(struct world *world, uint32_t member, uint32_t pins)
 {
-    world_open(world, member, I2C, pins);
+    world_open(world, member, LP586X_I2C, pins);
     list_start();
     ADD((uint8_t)(0x80 + 8 * pins), 0x00, 0x01);
     feed(world);
@@ -70,7 +67,7 @@ static void heads_on_i2c(void)
     struct world world;
 
     context("I2C heads");
-    start_on(&world, LP5860, 2);
+    start_on(&world, LP586X_LP5860, 2);
     for (uint32_t head = 0; head < 256; head++) {
         int called = head >> 3 == (0x10 | 2) || head >> 3 == 0x15;
         uint32_t address = (head >> 1 & 3) << 8 | 0x05;
@@ -90,7 +87,7 @@ static void heads_on_spi(void)
     struct world world;
 
     context("SPI heads");
-    world_open(&world, LP5860, SPI, 0);
+    world_open(&world, LP586X_LP5860, LP586X_SPI, 0);
     list_start();
     ADD(0x00, 0x20, 0x01);
     feed(&world);
@@ -112,7 +109,7 @@ static void lists_for_several_chips(void)
     struct world world, old;
 
     context("a list for several chips on I2C");
-    start_on(&world, LP5860, 2);
+    start_on(&world, LP586X_LP5860, 2);
     list_start();
     ADD(0x8C, 0x00, 0x11);       /* pins 1 */
     ADD(0x95, 0x00, 0x22);       /* a read */
@@ -135,7 +132,7 @@ static void lists_for_several_chips(void)
     check(memcmp(world.chip, old.chip, sizeof old.chip) == 0, "a list for other chips changed this one");
 
     context("reads and writes on SPI");
-    world_open(&world, LP5867, SPI, 0);
+    world_open(&world, LP586X_LP5867, LP586X_SPI, 0);
     list_start();
     ADD(0x00, 0x20, 0x01);
     ADD(0x80, 0x20, 0x34);
@@ -153,7 +150,7 @@ static void rising_addresses(void)
     struct world world;
 
     context("data for rising addresses");
-    start_on(&world, LP5860, 0);
+    start_on(&world, LP586X_LP5860, 0);
     list_start();
     ADD(0x84, 0x00, 1, 2, 3, 4);
     ADD(0x84, 0x02, 9);
@@ -171,7 +168,7 @@ static void many_transactions(void)
     struct world world, old;
 
     context("a list of 300 transactions");
-    start_on(&world, LP5860, 0);
+    start_on(&world, LP586X_LP5860, 0);
     old = world;
     list_start();
     for (uint32_t i = 0; i < COUNT; i++)
@@ -192,7 +189,7 @@ static void end_of_the_map(void)
     struct world world, old;
 
     context("data beyond 38Bh");
-    start_on(&world, LP5860, 0);
+    start_on(&world, LP586X_LP5860, 0);
     list_start();
     ADD(0x86, 0x8B, 7, 8, 9);
     feed(&world);
@@ -213,7 +210,7 @@ static void standby(void)
     struct world world;
 
     context("standby");
-    world_open(&world, LP5860, I2C, 0);
+    world_open(&world, LP586X_LP5860, LP586X_I2C, 0);
     list_start();
     ADD(0x84, 0x00, 0x11);
     ADD(0x80, 0x00, 0x01, 0x58);
@@ -241,7 +238,7 @@ static void kept_values(void)
     struct world world;
 
     context("what a chip keeps");
-    start_on(&world, LP5867, 0);
+    start_on(&world, LP586X_LP5867, 0);
     list_start();
     ADD(0x80, 0x43, 0x00, 0x00, 0xFF);
     ADD(0x82, 0x01, 0x11, 0x22, 0x33);
@@ -259,7 +256,7 @@ static void kept_values(void)
     expect(&world, 0x0A7, 0x00);
     expect(&world, 0x0A9, 0x00);
     expect(&world, 0x0AA, 0x00);
-    start_on(&world, LP5861T, 0);
+    start_on(&world, LP586X_LP5861T, 0);
     list_start();
     ADD(0x80, 0x01, 0x00, 0xFF, 0xFF, 0x00);
     feed(&world);
@@ -267,7 +264,7 @@ static void kept_values(void)
     expect(&world, 0x002, 0x06);
     expect(&world, 0x003, 0xFC);
     expect(&world, 0x004, 0x41);
-    start_on(&world, LP5864, 0);
+    start_on(&world, LP586X_LP5864, 0);
     list_start();
     ADD(0x80, 0x4E, 0x00, 0x00, 0xFF);
     feed(&world);
@@ -297,7 +294,7 @@ static void clears(void)
     struct world world;
 
     context("clearing fault bits");
-    start_on(&world, LP5860, 0);
+    start_on(&world, LP586X_LP5860, 0);
     set_faults(&world, 0xFF);
     list_start();
     ADD(0x80, 0xA7, 0x1F, 0xFF);
@@ -331,8 +328,8 @@ static void resets(void)
     struct world world, fresh;
 
     context("reset");
-    world_open(&fresh, LP5860, I2C, 0);
-    start_on(&world, LP5860, 0);
+    world_open(&fresh, LP586X_LP5860, LP586X_I2C, 0);
+    start_on(&world, LP586X_LP5860, 0);
     set_faults(&world, 0xFF);
     list_start();
     ADD(0x84, 0x00, 0x33);
@@ -365,8 +362,8 @@ static void reset_on_the_way(void)
     struct world world, fresh;
 
     context("a reset on the way");
-    world_open(&fresh, LP5860, I2C, 0);
-    start_on(&world, LP5860, 0);
+    world_open(&fresh, LP586X_LP5860, LP586X_I2C, 0);
+    start_on(&world, LP586X_LP5860, 0);
     memset(transaction, 0xFF, sizeof transaction);
     transaction[0] = 0x80;
     transaction[1] = 0x00;
@@ -383,8 +380,8 @@ static void power_losses(void)
     struct world world, fresh;
 
     context("loss of power");
-    for (uint32_t member = LP5860; member <= LP5868T; member++) {
-        world_open(&fresh, member, I2C, 3);
+    for (uint32_t member = LP586X_LP5860; member <= LP586X_LP5868T; member++) {
+        world_open(&fresh, member, LP586X_I2C, 3);
         world = fresh;
         memset(world.chip + CHIP_REGISTERS, 0xA7, LP586X_REGISTERS);
         check(world_chip_power_lost(&world) == 0, "refused");

@@ -1,4 +1,4 @@
-/* The header from C++: a record is opened, gets a lamp and is updated. */
+/* The header from C++: a record is opened, gets a lamp and is updated, and the last transaction is found. */
 #include "lp586x.h"
 
 #include <array>
@@ -13,18 +13,20 @@ void group_cplusplus(void)
                                                           0x80, 0x00, 0x01, 0x80, 0x01, 0x58, 0x84, 0x02, 0x40};
     std::array<std::uint8_t, LP586X_RECORD_SIZE> record;
     std::array<std::uint8_t, LP586X_UPDATE_SIZE> buffer;
-    std::uint32_t n = 0, t = 0, needed = 0;
+    std::uint32_t n = 0, t = 0, needed = 0, offset = 0, length = 0;
     bool equal = true;
 
     group("C++");
-    check(lp586x_open(record.data(), record.size(), 0, 0, 0) == 0, "open");
-    check(lp586x_register(record.data(), record.size(), 0x000, 0x01) == 0, "register 000h");
-    check(lp586x_register(record.data(), record.size(), 0x001, 0x58) == 0, "register 001h");
-    check(lp586x_lamp(record.data(), record.size(), 0, 2, 0x40) == 0, "lamp");
-    check(lp586x_update(record.data(), record.size(), buffer.data(), buffer.size(), &n, &t, &needed) == 0, "update");
+    check(lp586x_open(record.data(), record.size(), LP586X_LP5860, LP586X_I2C, 0) == LP586X_OK, "open");
+    check(lp586x_register(record.data(), record.size(), 0x000, 0x01) == LP586X_OK, "register 000h");
+    check(lp586x_register(record.data(), record.size(), 0x001, 0x58) == LP586X_OK, "register 001h");
+    check(lp586x_lamp(record.data(), record.size(), 0, 2, 0x40) == LP586X_OK, "lamp");
+    check(lp586x_update(record.data(), record.size(), buffer.data(), buffer.size(), &n, &t, &needed) == LP586X_OK, "update");
     check(n == 3 && t == 9, "n is %u, t is %u", n, t);
     for (std::size_t i = 0; i < expected.size(); i++)
         equal = equal && buffer[i] == expected[i];
     check(equal, "other list bytes");
+    check(lp586x_transaction(buffer.data(), expected.size(), 2, &offset, &length) == 0, "transaction");
+    check(offset == 16 && length == 3, "%u bytes at %u", length, offset);
     group_done("");
 }

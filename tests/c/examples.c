@@ -5,9 +5,6 @@
 #include "groups.h"
 #include "world.h"
 
-enum { I2C, SPI };
-enum { LP5860, LP5861T, LP5864, LP5867, LP5868T };
-
 static void expect_list(const struct outcome *outcome, const uint8_t *bytes, size_t size)
 {
     check(outcome->answer == 0, "refused with %u", outcome->answer);
@@ -42,7 +39,7 @@ static void expect_changed(const struct world *world, const struct world *old, c
 /* Chip on, data mode 0, nothing to send. */
 static void start_on(struct world *world, uint32_t member)
 {
-    world_open(world, member, I2C, 0);
+    world_open(world, member, LP586X_I2C, 0);
     must_set(world, REGISTER, 0x000, 0x01, 0);
     must_set(world, REGISTER, 0x001, 0x58, 0);
     world_sync(world);
@@ -53,8 +50,8 @@ static void reset_value_of_001h(void)
     struct world world;
 
     context("5Eh at 001h: 11 lines, mode 3");
-    for (uint32_t member = LP5860; member <= LP5868T; member++) {
-        world_open(&world, member, I2C, 0);
+    for (uint32_t member = LP586X_LP5860; member <= LP586X_LP5868T; member++) {
+        world_open(&world, member, LP586X_I2C, 0);
         check(world.record[SETTINGS + 1] == 0x5E, "member %u has %02X", member, world.record[SETTINGS + 1]);
     }
     check((0x5E >> 3 & 15) == 11 && (0x5E >> 1 & 3) == 3, "5Eh");
@@ -62,7 +59,7 @@ static void reset_value_of_001h(void)
 
 static void first_update(uint32_t bus, struct outcome *outcome, struct world *world)
 {
-    world_open(world, LP5860, bus, 0);
+    world_open(world, LP586X_LP5860, bus, 0);
     must_set(world, REGISTER, 0x000, 0x01, 0);
     must_set(world, REGISTER, 0x001, 0x58, 0);
     must_set(world, LAMP, 0, 2, 0x40);
@@ -75,14 +72,14 @@ static void first_updates(void)
     struct outcome outcome;
 
     context("000h = 01h, 001h = 58h, Lamp (0, 2, 40h), Update");
-    first_update(I2C, &outcome, &world);
+    first_update(LP586X_I2C, &outcome, &world);
     EXPECT_LIST(&outcome, 0x03, 0x00, 0x09, 0x00, 0x03, 0x00, 0x03, 0x00, 0x03, 0x00, 0x80, 0x00, 0x01, 0x80, 0x01, 0x58, 0x84,
                 0x02, 0x40);
     outcome = world_list(&world, UPDATE, LP586X_UPDATE_SIZE);
     EXPECT_LIST(&outcome, 0x00, 0x00, 0x00, 0x00);
 
     context("SPI transactions of the same");
-    first_update(SPI, &outcome, &world);
+    first_update(LP586X_SPI, &outcome, &world);
     EXPECT_LIST(&outcome, 0x03, 0x00, 0x09, 0x00, 0x03, 0x00, 0x03, 0x00, 0x03, 0x00, 0x00, 0x20, 0x01, 0x00, 0x60, 0x58, 0x80,
                 0xA0, 0x40);
 }
@@ -93,14 +90,14 @@ static void joined_writes(void)
     struct outcome outcome;
 
     context("chip on, only 202h and 205h differ");
-    start_on(&world, LP5860);
+    start_on(&world, LP586X_LP5860);
     must_set(&world, REGISTER, 0x202, 0x11, 0);
     must_set(&world, REGISTER, 0x205, 0x22, 0);
     outcome = world_list(&world, UPDATE, LP586X_UPDATE_SIZE);
     EXPECT_LIST(&outcome, 0x01, 0x00, 0x06, 0x00, 0x06, 0x00, 0x84, 0x02, 0x11, 0x00, 0x00, 0x22);
 
     context("chip on, only 202h and 206h differ");
-    start_on(&world, LP5860);
+    start_on(&world, LP586X_LP5860);
     must_set(&world, REGISTER, 0x202, 0x11, 0);
     must_set(&world, REGISTER, 0x206, 0x22, 0);
     outcome = world_list(&world, UPDATE, LP586X_UPDATE_SIZE);
@@ -112,7 +109,7 @@ static void places_of_dots(void)
     struct world world, old;
 
     context("line 4, sink 1: 16 bits at 292h, 293h");
-    world_open(&world, LP5860, I2C, 0);
+    world_open(&world, LP586X_LP5860, LP586X_I2C, 0);
     old = world;
     must_set(&world, LAMP, 4, 1, 0x1234);
     expect_changed(&world, &old, (const uint32_t[]){0x292, 0x293}, 2);
@@ -130,7 +127,7 @@ static void lp5867_columns(void)
     struct world world, old;
 
     context("LP5867 line 2, sink 8: current at 12Ch");
-    world_open(&world, LP5867, I2C, 0);
+    world_open(&world, LP586X_LP5867, LP586X_I2C, 0);
     old = world;
     must_set(&world, REGISTER, 0x12C, 0x01, 0);
     expect_changed(&world, &old, (const uint32_t[]){0x12C}, 1);
@@ -149,7 +146,7 @@ static void levels_by_mode(void)
     struct world world;
 
     context("levels by data mode");
-    world_open(&world, LP5860, I2C, 0);
+    world_open(&world, LP586X_LP5860, LP586X_I2C, 0);
     check(world_set(&world, LAMP, 0, 0, 65535) == 0, "65,535 in mode 3");
     check(world_set(&world, LAMP, 0, 0, 65536) == 7, "65,536 in mode 3");
     must_set(&world, REGISTER, 0x001, 0x5A, 0);
@@ -166,7 +163,7 @@ static void commands(void)
     for (uint32_t pins = 0; pins < 4; pins++) {
         uint8_t head = (uint8_t)(0x80 + 8 * pins);
 
-        world_open(&world, LP5864, I2C, pins);
+        world_open(&world, LP586X_LP5864, LP586X_I2C, pins);
         outcome = world_list(&world, RESET, 9);
         EXPECT_LIST(&outcome, 1, 0, 3, 0, 3, 0, head, 0xA9, 0xFF);
         outcome = world_list(&world, CLEAR_OPENS, 9);
@@ -174,7 +171,7 @@ static void commands(void)
         outcome = world_list(&world, CLEAR_SHORTS, 9);
         EXPECT_LIST(&outcome, 1, 0, 3, 0, 3, 0, head, 0xA8, 0x0F);
     }
-    world_open(&world, LP5864, SPI, 0);
+    world_open(&world, LP586X_LP5864, LP586X_SPI, 0);
     outcome = world_list(&world, RESET, 20);
     EXPECT_LIST(&outcome, 1, 0, 3, 0, 3, 0, 0x2A, 0x60, 0xFF);
     outcome = world_list(&world, CLEAR_OPENS, 20);
@@ -190,7 +187,7 @@ static void chip_off(void)
     struct outcome outcome;
 
     context("settings off");
-    world_open(&world, LP5860, I2C, 2);
+    world_open(&world, LP586X_LP5860, LP586X_I2C, 2);
     must_set(&world, LAMP, 0, 0, 7);
     outcome = world_list(&world, UPDATE, 4);
     EXPECT_LIST(&outcome, 0, 0, 0, 0);
@@ -211,7 +208,7 @@ static void settings_survive(void)
     struct outcome outcome;
 
     context("the settings are kept at a reset and a power loss");
-    start_on(&world, LP5860);
+    start_on(&world, LP586X_LP5860);
     must_set(&world, LAMP, 10, 17, 9);
     world_sync(&world);
     old = world;
@@ -251,9 +248,9 @@ static void power_dip(uint32_t member, uint32_t bus)
 static void power_dips(void)
 {
     context("a power loss between two updates");
-    for (uint32_t member = LP5860; member <= LP5868T; member++) {
-        power_dip(member, I2C);
-        power_dip(member, SPI);
+    for (uint32_t member = LP586X_LP5860; member <= LP586X_LP5868T; member++) {
+        power_dip(member, LP586X_I2C);
+        power_dip(member, LP586X_SPI);
     }
 }
 
@@ -264,12 +261,12 @@ static void holes_are_not_sent(void)
     struct outcome outcome;
 
     context("no write goes over a hole");
-    start_on(&world, LP5867);
+    start_on(&world, LP586X_LP5867);
     must_set(&world, GROUP, 0, 0, 1);
     must_set(&world, GROUP, 0, 8, 1);
     outcome = world_list(&world, UPDATE, LP586X_UPDATE_SIZE);
     EXPECT_LIST(&outcome, 2, 0, 6, 0, 3, 0, 3, 0, 0x80, 0x0C, 0x01, 0x80, 0x0E, 0x01);
-    start_on(&world, LP5860);
+    start_on(&world, LP586X_LP5860);
     must_set(&world, REGISTER, 0x1C5, 1, 0);
     must_set(&world, REGISTER, 0x200, 2, 0);
     outcome = world_list(&world, UPDATE, LP586X_UPDATE_SIZE);
@@ -279,7 +276,7 @@ static void holes_are_not_sent(void)
 /* A value for each register that is not its reset value. */
 static void change_all(struct world *world, uint32_t member)
 {
-    world_open(world, member, I2C, 0);
+    world_open(world, member, LP586X_I2C, 0);
     for (uint32_t address = 0; address < LP586X_REGISTERS; address++)
         for (uint32_t bit = 0; bit < 8; bit++)
             if (world_set(world, REGISTER, address, world->record[IMAGE + address] ^ 1u << bit, 0) == 0)
@@ -293,7 +290,7 @@ static void largest_updates(void)
     struct outcome outcome;
 
     context("t is never above 702");
-    for (uint32_t member = LP5860; member <= LP5868T; member++) {
+    for (uint32_t member = LP586X_LP5860; member <= LP586X_LP5868T; member++) {
         change_all(&world, member);
         outcome = world_sync(&world);
         check(outcome.t == largest[member], "member %u: t is %u", member, outcome.t);
@@ -314,7 +311,7 @@ static void longest_list(void)
     struct outcome outcome;
 
     context("the longest list");
-    world_open(&world, LP5860, I2C, 0);
+    world_open(&world, LP586X_LP5860, LP586X_I2C, 0);
     must_set(&world, REGISTER, 0x000, 0x01, 0);
     differ_by_fours(&world, 0x001, 0x063);
     differ_by_fours(&world, 0x100, 0x1C5);

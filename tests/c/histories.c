@@ -1,7 +1,8 @@
 /* Random histories. In each a record is opened and gets several hundred calls, with wrong arguments, short buffers and scenes with
  * duplicates among them; every accepted list is fed to its chip. A ledger is kept from the calls alone: the settings must equal it
- * after every call, and the chip's writable registers after every update that has the chip on. Beside the history, and without
- * touching it, calls are made on damaged records and chips, and a second chip is fed random and damaged lists.
+ * after every call, and the chip's writable registers after every update that has the chip on. The transactions of every accepted
+ * list are found one by one. Beside the history, and without touching it, calls are made on damaged records and chips, and a second
+ * chip is fed random and damaged lists.
  */
 #include <inttypes.h>
 #include <stdio.h>
@@ -14,9 +15,10 @@
 #include "ledger.h"
 #include "random.h"
 #include "reference.h"
+#include "walk.h"
 #include "world.h"
 
-enum { CALLS = 500000, CALLS_IN_A_HISTORY = 600, MEMBERS = 5, KINDS = FEED + 1, ANSWERS = 16, LIST_ROOM = 65536 };
+enum { CALLS = 500000, CALLS_IN_A_HISTORY = 600, MEMBERS = 5, KINDS = TRANSACTION + 1, ANSWERS = 32, LIST_ROOM = 65536 };
 
 struct history {
     uint32_t member, bus, pins;
@@ -275,9 +277,16 @@ static void feed_answer(struct history *history, const struct outcome *outcome)
 {
     static uint8_t list[LP586X_UPDATE_SIZE];
     size_t size = 4 + 2 * (size_t)outcome->n + outcome->t;
+    struct world other;
 
     memcpy(list, outcome->buffer, size);
+    check(walk(list, size) == outcome->n, "the list has other than %u transactions", outcome->n);
+    other = history->world;
     check(note_answer(FEED, world_feed(&history->world, list, size)) == 0, "the chip refuses the list");
+    if (!one_in(8))
+        return;
+    feed_one_by_one(&other, list);
+    check(memcmp(other.chip, history->world.chip, sizeof other.chip) == 0, "one at a time, the transactions leave another chip");
 }
 
 /* "Demand 3 compares its writable bytes." */
@@ -357,6 +366,17 @@ static void feed_anything(struct history *history)
     note_answer(FEED, world_feed(&history->wild, list, size));
 }
 
+/* An index that the list mostly has. */
+static void find_transaction(const struct history *history)
+{
+    static uint8_t list[LIST_ROOM];
+    size_t size = some_list(&history->wild, list);
+    uint32_t index = one_in(8) ? any_number() : random_below(list[0] + 1u);
+    struct call call = transaction_call(list, size, index);
+
+    note_answer(TRANSACTION, both(&call).answer);
+}
+
 /* Some bytes are changed, or the size is wrong, or both. */
 static void damage(uint8_t *state, size_t *size)
 {
@@ -371,11 +391,11 @@ static void damage(uint8_t *state, size_t *size)
         *size = one_in(2) ? *size + 1 - 2 * random_below(2) : random_below(2000);
 }
 
-/* Any call but Faults, on a damaged copy, with arguments that are mostly right. */
+/* Any call that is lent a record or a chip, on a damaged copy, with arguments that are mostly right. */
 static void call_on_damaged(struct history *history)
 {
     static uint8_t state[2048], input[LIST_ROOM];
-    struct call call = {.kind = (enum kind)random_below(KINDS), .state = state, .input = input};
+    struct call call = {.kind = (enum kind)random_below(TRANSACTION), .state = state, .input = input};
     int on_chip = call.kind > FAULTS;
 
     if (call.kind == FAULTS)
@@ -462,8 +482,10 @@ static void one_call(struct history *history)
         command(history, one_in(2) ? CLEAR_OPENS : CLEAR_SHORTS);
     else if (choice < 80)
         read_faults(history);
-    else if (choice < 86)
+    else if (choice < 85)
         feed_anything(history);
+    else if (choice < 87)
+        find_transaction(history);
     else if (choice < 96)
         call_on_damaged(history);
     else
@@ -509,6 +531,7 @@ static const uint8_t refusals[KINDS][5] = {
     [CHIP_AT_RESET] = {14, 1, 2, 3},
     [CHIP_POWER_LOST] = {14},
     [FEED] = {14, 11},
+    [TRANSACTION] = {11, 26},
 };
 
 /* Each was given, and each call was accepted, and nothing else was answered. */

@@ -24,6 +24,7 @@ int main(int count, char **arguments)
     group_dots();
     group_heads();
     group_chip();
+    group_transactions();
     group_faults();
     group_cplusplus();
     group_histories(strtoull(arguments[2], NULL, 0));

@@ -18,7 +18,8 @@ enum refusal {
     BUFFER_SHORT = 10,
     LIST_SIZES = 11,
     FAULT_BYTES = 13,
-    UNSOUND = 14
+    UNSOUND = 14,
+    NO_TRANSACTION = 26
 };
 
 enum {
@@ -582,6 +583,23 @@ static int sizes_add_up(const uint8_t *list, size_t size)
         sum += length;
     }
     return sum == t;
+}
+
+uint32_t reference_transaction(const uint8_t *list, size_t list_size, uint32_t index, uint32_t *offset, uint32_t *length)
+{
+    uint32_t n, at;
+
+    if (!sizes_add_up(list, list_size))
+        return LIST_SIZES;
+    n = get_two(list);
+    if (index >= n)
+        return NO_TRANSACTION;
+    at = 4 + 2 * n;
+    for (uint32_t i = 0; i < index; i++)
+        at += get_two(list + 4 + 2 * i);
+    *offset = at;
+    *length = get_two(list + 4 + 2 * index);
+    return ACCEPTED;
 }
 
 /* "Each transaction is a write to this chip or passes by": 1 for a write, with its start address. */

@@ -5,8 +5,6 @@
 #include "groups.h"
 #include "world.h"
 
-enum { LP5860, LP5861T, LP5864, LP5867, LP5868T };
-
 #define HUGE_NUMBER 0xFFFFFFFFu
 
 static struct outcome expect(uint32_t number, struct call call)
@@ -48,9 +46,9 @@ static void expect_open(uint32_t number, enum kind kind, const struct world *wor
         call.state_size = sizeof world->chip;
     }
     expect(number, call);
-    expect(14, sized(call, call.state_size - 1));
-    expect(14, sized(call, call.state_size + 1));
-    expect(14, sized(call, 0));
+    expect(LP586X_UNSOUND, sized(call, call.state_size - 1));
+    expect(LP586X_UNSOUND, sized(call, call.state_size + 1));
+    expect(LP586X_UNSOUND, sized(call, 0));
 }
 
 /* Open and chip_at_reset: 14 (size), 1, 2, 3. */
@@ -61,57 +59,57 @@ static void opens(enum kind kind)
     memset(&world, 0x77, sizeof world);
     for (uint32_t member = 0; member < 5; member++) {
         for (uint32_t pins = 0; pins < 4; pins++) {
-            expect_open(0, kind, &world, member, 0, pins);
-            expect_open(pins == 0 ? 0 : 3, kind, &world, member, 1, pins);
+            expect_open(LP586X_OK, kind, &world, member, 0, pins);
+            expect_open(pins == 0 ? LP586X_OK : LP586X_NO_PINS, kind, &world, member, 1, pins);
         }
-        expect_open(3, kind, &world, member, 0, 4);
-        expect_open(3, kind, &world, member, 0, HUGE_NUMBER);
-        expect_open(3, kind, &world, member, 0, 256);
-        expect_open(3, kind, &world, member, 1, 256);
-        expect_open(2, kind, &world, member, 2, 0);
-        expect_open(2, kind, &world, member, 256, 4);
-        expect_open(2, kind, &world, member, HUGE_NUMBER, HUGE_NUMBER);
+        expect_open(LP586X_NO_PINS, kind, &world, member, 0, 4);
+        expect_open(LP586X_NO_PINS, kind, &world, member, 0, HUGE_NUMBER);
+        expect_open(LP586X_NO_PINS, kind, &world, member, 0, 256);
+        expect_open(LP586X_NO_PINS, kind, &world, member, 1, 256);
+        expect_open(LP586X_NO_BUS, kind, &world, member, 2, 0);
+        expect_open(LP586X_NO_BUS, kind, &world, member, 256, 4);
+        expect_open(LP586X_NO_BUS, kind, &world, member, HUGE_NUMBER, HUGE_NUMBER);
     }
-    expect_open(1, kind, &world, 5, 0, 0);
-    expect_open(1, kind, &world, 256, 0, 0);
-    expect_open(1, kind, &world, 65536, 2, 4);
-    expect_open(1, kind, &world, HUGE_NUMBER, HUGE_NUMBER, HUGE_NUMBER);
+    expect_open(LP586X_NO_MEMBER, kind, &world, 5, 0, 0);
+    expect_open(LP586X_NO_MEMBER, kind, &world, 256, 0, 0);
+    expect_open(LP586X_NO_MEMBER, kind, &world, 65536, 2, 4);
+    expect_open(LP586X_NO_MEMBER, kind, &world, HUGE_NUMBER, HUGE_NUMBER, HUGE_NUMBER);
 }
 
 /* Register: 14, 4, 5. */
 static void registers(const struct world *world)
 {
-    expect(14, unsound(record_call(world, REGISTER, 0x064, 256, 0)));
-    expect(14, unsound(record_call(world, REGISTER, 0x000, 1, 0)));
-    expect(4, record_call(world, REGISTER, 0x064, 256, 0));
-    expect(4, record_call(world, REGISTER, 0x0A9, 0xFF, 0));
-    expect(4, record_call(world, REGISTER, 0x38C, 0, 0));
-    expect(4, record_call(world, REGISTER, 0x10000, 0, 0));
-    expect(4, record_call(world, REGISTER, HUGE_NUMBER, HUGE_NUMBER, 0));
-    expect(5, record_call(world, REGISTER, 0x000, 2, 0));
-    expect(5, record_call(world, REGISTER, 0x000, 256, 0));
-    expect(5, record_call(world, REGISTER, 0x005, 256, 0));
-    expect(5, record_call(world, REGISTER, 0x005, HUGE_NUMBER, 0));
-    expect(0, record_call(world, REGISTER, 0x005, 255, 0));
+    expect(LP586X_UNSOUND, unsound(record_call(world, REGISTER, 0x064, 256, 0)));
+    expect(LP586X_UNSOUND, unsound(record_call(world, REGISTER, 0x000, 1, 0)));
+    expect(LP586X_NOT_WRITABLE, record_call(world, REGISTER, 0x064, 256, 0));
+    expect(LP586X_NOT_WRITABLE, record_call(world, REGISTER, 0x0A9, 0xFF, 0));
+    expect(LP586X_NOT_WRITABLE, record_call(world, REGISTER, 0x38C, 0, 0));
+    expect(LP586X_NOT_WRITABLE, record_call(world, REGISTER, 0x10000, 0, 0));
+    expect(LP586X_NOT_WRITABLE, record_call(world, REGISTER, HUGE_NUMBER, HUGE_NUMBER, 0));
+    expect(LP586X_RESERVED_BIT, record_call(world, REGISTER, 0x000, 2, 0));
+    expect(LP586X_RESERVED_BIT, record_call(world, REGISTER, 0x000, 256, 0));
+    expect(LP586X_RESERVED_BIT, record_call(world, REGISTER, 0x005, 256, 0));
+    expect(LP586X_RESERVED_BIT, record_call(world, REGISTER, 0x005, HUGE_NUMBER, 0));
+    expect(LP586X_OK, record_call(world, REGISTER, 0x005, 255, 0));
 }
 
 /* Lamp: 14, 6, 7. Group and Switch: 14, 6, 8. */
 static void dots(const struct world *world, enum kind kind, uint32_t top, uint32_t last)
 {
-    expect(14, unsound(record_call(world, kind, 11, 18, HUGE_NUMBER)));
-    expect(14, unsound(record_call(world, kind, 0, 0, 0)));
-    expect(6, record_call(world, kind, 11, 0, HUGE_NUMBER));
-    expect(6, record_call(world, kind, 0, 18, HUGE_NUMBER));
-    expect(6, record_call(world, kind, HUGE_NUMBER, 0, 0));
-    expect(6, record_call(world, kind, 0, HUGE_NUMBER, 0));
-    expect(6, record_call(world, kind, 256, 0, 0));
-    expect(6, record_call(world, kind, 0, 256, 0));
+    expect(LP586X_UNSOUND, unsound(record_call(world, kind, 11, 18, HUGE_NUMBER)));
+    expect(LP586X_UNSOUND, unsound(record_call(world, kind, 0, 0, 0)));
+    expect(LP586X_NO_DOT, record_call(world, kind, 11, 0, HUGE_NUMBER));
+    expect(LP586X_NO_DOT, record_call(world, kind, 0, 18, HUGE_NUMBER));
+    expect(LP586X_NO_DOT, record_call(world, kind, HUGE_NUMBER, 0, 0));
+    expect(LP586X_NO_DOT, record_call(world, kind, 0, HUGE_NUMBER, 0));
+    expect(LP586X_NO_DOT, record_call(world, kind, 256, 0, 0));
+    expect(LP586X_NO_DOT, record_call(world, kind, 0, 256, 0));
     /* 18 x line + sink would come out at 0. */
-    expect(6, record_call(world, kind, 0x80000000u, 0, 0));
+    expect(LP586X_NO_DOT, record_call(world, kind, 0x80000000u, 0, 0));
     expect(last, record_call(world, kind, 0, 0, top + 1));
     expect(last, record_call(world, kind, 0, 0, HUGE_NUMBER));
     expect(last, record_call(world, kind, 0, 0, 0x10000));
-    expect(0, record_call(world, kind, 0, 0, top));
+    expect(LP586X_OK, record_call(world, kind, 0, 0, top));
 }
 
 /* n entries of the same dot and level. */
@@ -133,31 +131,31 @@ static void scenes(const struct world *world)
     static uint8_t scene[200000];
     size_t size = fill_scene(scene, 3, 198, 256);
 
-    expect(14, unsound(scene_call(world, scene, 0)));
-    expect(9, scene_call(world, scene, 0));
-    expect(9, scene_call(world, scene, 1));
-    expect(9, scene_call(world, scene, 2));
-    expect(9, scene_call(world, scene, size - 1));
-    expect(9, scene_call(world, scene, size + 1));
-    expect(9, scene_call(world, scene, 4));
-    expect(6, scene_call(world, scene, size));
+    expect(LP586X_UNSOUND, unsound(scene_call(world, scene, 0)));
+    expect(LP586X_SCENE_LENGTH, scene_call(world, scene, 0));
+    expect(LP586X_SCENE_LENGTH, scene_call(world, scene, 1));
+    expect(LP586X_SCENE_LENGTH, scene_call(world, scene, 2));
+    expect(LP586X_SCENE_LENGTH, scene_call(world, scene, size - 1));
+    expect(LP586X_SCENE_LENGTH, scene_call(world, scene, size + 1));
+    expect(LP586X_SCENE_LENGTH, scene_call(world, scene, 4));
+    expect(LP586X_NO_DOT, scene_call(world, scene, size));
     fill_scene(scene, 3, 0, 256);
-    expect(7, scene_call(world, scene, size));
+    expect(LP586X_LEVEL_TOO_HIGH, scene_call(world, scene, size));
     scene[4] = 198; /* the last dot, behind a level that is too high */
-    expect(6, scene_call(world, scene, size));
+    expect(LP586X_NO_DOT, scene_call(world, scene, size));
     fill_scene(scene, 3, 0, 255);
     scene[2 + 3 + 5] = 1; /* the last level */
-    expect(7, scene_call(world, scene, size));
+    expect(LP586X_LEVEL_TOO_HIGH, scene_call(world, scene, size));
     fill_scene(scene, 3, 197, 255);
-    expect(0, scene_call(world, scene, size));
-    expect(0, scene_call(world, scene, fill_scene(scene, 0, 0, 0)));
-    expect(9, scene_call(world, scene, 3));
-    expect(0, scene_call(world, scene, fill_scene(scene, 65535, 1, 254)));
-    expect(9, scene_call(world, scene, 196606));
-    expect(9, scene_call(world, scene, 196608));
-    expect(9, scene_call(world, scene, (2 + 3 * 65535) % 65536));
+    expect(LP586X_OK, scene_call(world, scene, size));
+    expect(LP586X_OK, scene_call(world, scene, fill_scene(scene, 0, 0, 0)));
+    expect(LP586X_SCENE_LENGTH, scene_call(world, scene, 3));
+    expect(LP586X_OK, scene_call(world, scene, fill_scene(scene, 65535, 1, 254)));
+    expect(LP586X_SCENE_LENGTH, scene_call(world, scene, 196606));
+    expect(LP586X_SCENE_LENGTH, scene_call(world, scene, 196608));
+    expect(LP586X_SCENE_LENGTH, scene_call(world, scene, (2 + 3 * 65535) % 65536));
     scene[2 + 65534] = 255;
-    expect(6, scene_call(world, scene, 196607));
+    expect(LP586X_NO_DOT, scene_call(world, scene, 196607));
 }
 
 /* Update, Reset and the Clears: 14, 10. */
@@ -166,17 +164,17 @@ static void lists(const struct world *world)
     struct outcome outcome;
 
     for (enum kind kind = UPDATE; kind <= CLEAR_SHORTS; kind++) {
-        expect(14, unsound(list_call_of(world, kind, 0)));
-        expect(14, unsound(list_call_of(world, kind, LP586X_UPDATE_SIZE)));
-        expect(10, list_call_of(world, kind, 0));
-        expect(10, list_call_of(world, kind, 3));
-        expect(10, list_call_of(world, kind, 8));
-        expect(0, list_call_of(world, kind, 65536 + 3));
+        expect(LP586X_UNSOUND, unsound(list_call_of(world, kind, 0)));
+        expect(LP586X_UNSOUND, unsound(list_call_of(world, kind, LP586X_UPDATE_SIZE)));
+        expect(LP586X_BUFFER_SHORT, list_call_of(world, kind, 0));
+        expect(LP586X_BUFFER_SHORT, list_call_of(world, kind, 3));
+        expect(LP586X_BUFFER_SHORT, list_call_of(world, kind, 8));
+        expect(LP586X_OK, list_call_of(world, kind, 65536 + 3));
     }
     /* Only Update's refusal carries a value. */
-    outcome = expect(10, list_call_of(world, UPDATE, 13));
+    outcome = expect(LP586X_BUFFER_SHORT, list_call_of(world, UPDATE, 13));
     check(outcome.needed == 14 && outcome.n == OUT_UNTOUCHED && outcome.t == OUT_UNTOUCHED, "needed is %u", outcome.needed);
-    outcome = expect(0, list_call_of(world, UPDATE, 14));
+    outcome = expect(LP586X_OK, list_call_of(world, UPDATE, 14));
     check(outcome.needed == OUT_UNTOUCHED && outcome.n == 2 && outcome.t == 6, "n is %u, t is %u", outcome.n, outcome.t);
 }
 
@@ -185,18 +183,18 @@ static void faults(void)
 {
     static const uint8_t bytes[1 << 17];
 
-    expect(1, faults_call(5, bytes, 66, 197));
-    expect(1, faults_call(256, bytes, 67, 198));
-    expect(1, faults_call(HUGE_NUMBER, bytes, 0, 0));
-    expect(13, faults_call(0, bytes, 66, 197));
-    expect(13, faults_call(0, bytes, 68, 197));
-    expect(13, faults_call(4, bytes, 0, 0));
-    expect(13, faults_call(4, bytes, 67 + 65536, 198));
-    expect(13, faults_call(4, bytes, 67 + 256, 198));
-    expect(10, faults_call(0, bytes, 67, 197));
-    expect(10, faults_call(0, bytes, 67, 0));
-    expect(0, faults_call(0, bytes, 67, 198));
-    expect(0, faults_call(0, bytes, 67, 65536 + 197));
+    expect(LP586X_NO_MEMBER, faults_call(5, bytes, 66, 197));
+    expect(LP586X_NO_MEMBER, faults_call(256, bytes, 67, 198));
+    expect(LP586X_NO_MEMBER, faults_call(HUGE_NUMBER, bytes, 0, 0));
+    expect(LP586X_FAULT_LENGTH, faults_call(0, bytes, 66, 197));
+    expect(LP586X_FAULT_LENGTH, faults_call(0, bytes, 68, 197));
+    expect(LP586X_FAULT_LENGTH, faults_call(4, bytes, 0, 0));
+    expect(LP586X_FAULT_LENGTH, faults_call(4, bytes, 67 + 65536, 198));
+    expect(LP586X_FAULT_LENGTH, faults_call(4, bytes, 67 + 256, 198));
+    expect(LP586X_BUFFER_SHORT, faults_call(0, bytes, 67, 197));
+    expect(LP586X_BUFFER_SHORT, faults_call(0, bytes, 67, 0));
+    expect(LP586X_OK, faults_call(0, bytes, 67, 198));
+    expect(LP586X_OK, faults_call(0, bytes, 67, 65536 + 197));
 }
 
 /* Feed: 14, 11. */
@@ -212,19 +210,19 @@ static void feeds(const struct world *world)
     static const uint8_t none[] = {0, 0, 0, 0, 0};
     static const uint8_t no_transactions[] = {0, 0, 3, 0, 0x80, 0x00, 0x01};
 
-    expect(14, unsound(feed_call(world, good, 0)));
-    expect(14, unsound(feed_call(world, good, 9)));
+    expect(LP586X_UNSOUND, unsound(feed_call(world, good, 0)));
+    expect(LP586X_UNSOUND, unsound(feed_call(world, good, 9)));
     for (size_t size = 0; size <= sizeof good; size++)
-        expect(size == 9 ? 0 : 11, feed_call(world, good, size));
+        expect(size == 9 ? LP586X_OK : LP586X_LIST_SIZES, feed_call(world, good, size));
     for (size_t size = 0; size <= sizeof none; size++)
-        expect(size == 4 ? 0 : 11, feed_call(world, none, size));
-    expect(11, feed_call(world, not_t, sizeof not_t));
-    expect(11, feed_call(world, short_length, sizeof short_length));
-    expect(11, feed_call(world, zero_length, sizeof zero_length));
-    expect(11, feed_call(world, long_length, sizeof long_length));
-    expect(11, feed_call(world, wraps, sizeof wraps));
-    expect(11, feed_call(world, many, sizeof many));
-    expect(11, feed_call(world, no_transactions, sizeof no_transactions));
+        expect(size == 4 ? LP586X_OK : LP586X_LIST_SIZES, feed_call(world, none, size));
+    expect(LP586X_LIST_SIZES, feed_call(world, not_t, sizeof not_t));
+    expect(LP586X_LIST_SIZES, feed_call(world, short_length, sizeof short_length));
+    expect(LP586X_LIST_SIZES, feed_call(world, zero_length, sizeof zero_length));
+    expect(LP586X_LIST_SIZES, feed_call(world, long_length, sizeof long_length));
+    expect(LP586X_LIST_SIZES, feed_call(world, wraps, sizeof wraps));
+    expect(LP586X_LIST_SIZES, feed_call(world, many, sizeof many));
+    expect(LP586X_LIST_SIZES, feed_call(world, no_transactions, sizeof no_transactions));
 }
 
 /* Both bytes of n count: 300 and 256 are not 44 and 0, whose sizes would add up. */
@@ -235,8 +233,8 @@ static void feeds_by_n(const struct world *world)
 
     for (size_t i = 0; i < 44; i++)
         list[4 + 2 * i] = 3;
-    expect(11, feed_call(world, list, sizeof list));
-    expect(11, feed_call(world, none, sizeof none));
+    expect(LP586X_LIST_SIZES, feed_call(world, list, sizeof list));
+    expect(LP586X_LIST_SIZES, feed_call(world, none, sizeof none));
 }
 
 /* Lengths are added in full: 65,535 + 7 is not 6, whether the size is that for 6 bytes or for 65,542. */
@@ -246,12 +244,12 @@ static void feeds_by_sum(const struct world *world)
     static uint8_t swapped[sizeof list] = {2, 0, 6, 0, 7, 0, 0xFF, 0xFF};
     static uint8_t longest[4 + 2 + 65535 + 1] = {1, 0, 0xFF, 0xFF, 0xFF, 0xFF, 0x80, 0x00, 0x01};
 
-    expect(11, feed_call(world, list, 4 + 4 + 6));
-    expect(11, feed_call(world, list, sizeof list));
-    expect(11, feed_call(world, swapped, 4 + 4 + 6));
-    expect(11, feed_call(world, swapped, sizeof swapped));
-    expect(0, feed_call(world, longest, sizeof longest - 1));
-    expect(11, feed_call(world, longest, sizeof longest));
+    expect(LP586X_LIST_SIZES, feed_call(world, list, 4 + 4 + 6));
+    expect(LP586X_LIST_SIZES, feed_call(world, list, sizeof list));
+    expect(LP586X_LIST_SIZES, feed_call(world, swapped, 4 + 4 + 6));
+    expect(LP586X_LIST_SIZES, feed_call(world, swapped, sizeof swapped));
+    expect(LP586X_OK, feed_call(world, longest, sizeof longest - 1));
+    expect(LP586X_LIST_SIZES, feed_call(world, longest, sizeof longest));
 }
 
 void group_refusals(void)
@@ -261,22 +259,22 @@ void group_refusals(void)
     group("refusals");
     opens(OPEN);
     opens(CHIP_AT_RESET);
-    for (uint32_t member = LP5860; member <= LP5868T; member++) {
-        world_open(&world, member, 0, 0);
+    for (uint32_t member = LP586X_LP5860; member <= LP586X_LP5868T; member++) {
+        world_open(&world, member, LP586X_I2C, 0);
         registers(&world);
-        dots(&world, LAMP, 65535, 7);
-        dots(&world, GROUP, 3, 8);
-        dots(&world, SWITCH, 1, 8);
-        expect(14, unsound(record_call(&world, POWER_LOST, 0, 0, 0)));
-        expect(0, record_call(&world, POWER_LOST, 0, 0, 0));
+        dots(&world, LAMP, 65535, LP586X_LEVEL_TOO_HIGH);
+        dots(&world, GROUP, 3, LP586X_NO_GROUP_OR_STATE);
+        dots(&world, SWITCH, 1, LP586X_NO_GROUP_OR_STATE);
+        expect(LP586X_UNSOUND, unsound(record_call(&world, POWER_LOST, 0, 0, 0)));
+        expect(LP586X_OK, record_call(&world, POWER_LOST, 0, 0, 0));
         feeds(&world);
         feeds_by_n(&world);
         feeds_by_sum(&world);
     }
-    world_open(&world, LP5860, 0, 0);
+    world_open(&world, LP586X_LP5860, LP586X_I2C, 0);
     world_set(&world, REGISTER, 0x000, 0x01, 0);
     world_set(&world, REGISTER, 0x001, 0x58, 0);
-    dots(&world, LAMP, 255, 7);
+    dots(&world, LAMP, 255, LP586X_LEVEL_TOO_HIGH);
     scenes(&world);
     lists(&world);
     faults();

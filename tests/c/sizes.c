@@ -98,6 +98,7 @@ static void sizes_beyond_32_bits(const struct world *world)
     check(lp586x_faults(0, memory, four_gib + 67, small, 198, &n, &t) == 13, "faults, 2^32 + 67 bytes");
     check(lp586x_scene(record, sizeof record, memory, four_gib + 2) == 9, "scene, 2^32 + 2");
     check(lp586x_chip_feed(chip, sizeof chip, memory, four_gib + 4) == 11, "chip_feed, 2^32 + 4");
+    check(lp586x_transaction(memory, four_gib + 4, 0, &n, &t) == 11, "transaction, 2^32 + 4");
     memcpy(memory, world->record, sizeof world->record);
     check(lp586x_power_lost(memory, four_gib + LP586X_RECORD_SIZE) == 14, "power_lost, a record of 2^32 + 1819");
     check(lp586x_open(memory, four_gib + LP586X_RECORD_SIZE, 0, 0, 0) == 14, "open, a record of 2^32 + 1819");

@@ -58,6 +58,7 @@ static const char *const kind_names[] = {
     [CHIP_AT_RESET] = "chip_at_reset",
     [CHIP_POWER_LOST] = "chip_power_lost",
     [FEED] = "chip_feed",
+    [TRANSACTION] = "transaction",
 };
 
 const char *call_text(const struct call *call)
@@ -217,6 +218,8 @@ static void perform(struct side *side, const struct call *call)
         side->answer = call_list(calls, call, state, buffer, n, t, needed);
     else if (call->kind == FAULTS)
         side->answer = calls->faults(call->numbers[0], input, call->input_size, buffer, call->buffer_size, n, t);
+    else if (call->kind == TRANSACTION)
+        side->answer = calls->transaction(input, call->input_size, call->numbers[0], n, t);
     else
         side->answer = call_chip(calls, call, state, input);
 }

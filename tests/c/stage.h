@@ -25,7 +25,8 @@ enum kind {
     FAULTS,
     CHIP_AT_RESET,
     CHIP_POWER_LOST,
-    FEED
+    FEED,
+    TRANSACTION
 };
 
 struct call {
@@ -41,7 +42,8 @@ struct call {
 /* What the library answered. The pointers hold until the next call. */
 struct outcome {
     uint32_t answer;
-    uint32_t n, t, needed; /* FAULTS: opens_agree, shorts_agree; OUT_UNTOUCHED where nothing was stored */
+    /* FAULTS: opens_agree, shorts_agree; TRANSACTION: offset, length; OUT_UNTOUCHED where nothing was stored */
+    uint32_t n, t, needed;
     const uint8_t *state;
     const uint8_t *buffer;
 };

@@ -41,6 +41,11 @@ struct call feed_call(const struct world *world, const uint8_t *list, size_t lis
     return call;
 }
 
+struct call transaction_call(const uint8_t *list, size_t list_size, uint32_t index)
+{
+    return (struct call){.kind = TRANSACTION, .numbers = {index}, .input = list, .input_size = list_size};
+}
+
 struct call faults_call(uint32_t member, const uint8_t *bytes, size_t bytes_size, size_t result_size)
 {
     return (struct call){

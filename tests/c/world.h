@@ -33,6 +33,7 @@ struct call record_call(const struct world *world, enum kind kind, uint32_t firs
 struct call list_call_of(const struct world *world, enum kind kind, size_t buffer_size);
 struct call scene_call(const struct world *world, const uint8_t *scene, size_t scene_size);
 struct call feed_call(const struct world *world, const uint8_t *list, size_t list_size);
+struct call transaction_call(const uint8_t *list, size_t list_size, uint32_t index);
 struct call faults_call(uint32_t member, const uint8_t *bytes, size_t bytes_size, size_t result_size);
 
 #endif
