@@ -1,4 +1,5 @@
 // Lists that are refused: by their sizes, or as they have more than 65,536 bytes.
+use crate::report::one_line;
 use crate::report::whole;
 use crate::writes::bench;
 use crate::writes::single;
@@ -7,6 +8,7 @@ use crate::writes::single;
 fn short() {
     whole(b"an empty list", b"");
     whole(b"three bytes", &[0, 0, 0]);
+    one_line(b"on one line", 0, &[0, 0, 0]);
 }
 
 // "a length below 3, lengths not adding to t"

@@ -1,12 +1,21 @@
-// Lists whose text shows the head's address: writes, a read, other chips' writes, and SPI heads read as I2C heads.
+// Lists whose text shows the head's address: writes, a read, other chips' writes, SPI heads, and SPI heads read as I2C heads.
+use crate::report::one_line;
 use crate::report::whole;
+use crate::report::whole_on;
 use crate::writes::bench;
 use crate::writes::single;
 
-fn buses() {
+fn i2c() {
     let mut list = [0u8; 19];
     bench(b"the bench example", &mut list, 0);
+    one_line(b"on one line", 0, &list);
+}
+
+fn spi() {
+    let mut list = [0u8; 19];
     bench(b"the bench example with SPI heads", &mut list, 1);
+    whole_on(b"read as SPI heads", 1, &list);
+    one_line(b"on one line", 1, &list);
 }
 
 fn other_pins() {
@@ -27,7 +36,8 @@ fn last_address() {
 }
 
 pub fn all() {
-    buses();
+    i2c();
+    spi();
     whole(b"no transaction", &[0, 0, 0, 0]);
     other_pins();
     // 10101, address bits 9-8 and 0; then address bits 7-0

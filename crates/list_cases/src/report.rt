@@ -15,12 +15,25 @@ fn say_line(text: &[u8]) {
     say(b"\n");
 }
 
-// The caption, and the list's text.
-pub fn whole(caption: &[u8], list: &[u8]) {
+// The caption, and the list's text with heads of a bus.
+pub fn whole_on(caption: &[u8], bus: usize, list: &[u8]) {
     say_line(caption);
     let mut text = [0u8; ROOM];
-    let end = listing::show(list, &mut text);
+    let end = listing::show(bus, list, &mut text);
     say(&text[..end]);
+}
+
+// With I2C heads.
+pub fn whole(caption: &[u8], list: &[u8]) {
+    whole_on(caption, 0, list);
+}
+
+// The caption, and the list's text on one line.
+pub fn one_line(caption: &[u8], bus: usize, list: &[u8]) {
+    say_line(caption);
+    let mut text = [0u8; ROOM];
+    let end = listing::put_list(&mut text, 0, bus, list);
+    say_line(&text[..end]);
 }
 
 // Where the first line ends.
@@ -62,6 +75,6 @@ fn say_summary(text: &[u8]) {
 pub fn summary(caption: &[u8], list: &[u8]) {
     say_line(caption);
     let mut text = [0u8; ROOM];
-    let end = listing::show(list, &mut text);
+    let end = listing::show(0, list, &mut text);
     say_summary(&text[..end]);
 }

@@ -13,7 +13,7 @@ use map::Field;
 use map::Place;
 use rows::Row;
 
-// A mark for each member and address: 1 where it is listed.
+// A mark for each member and address: 1 where it is listed, 2 where an expected disagreement was found.
 pub const MARKS: usize = 5 * ADDRESSES;
 
 // Where the mark of an address stands; MARKS where there is none.
@@ -44,7 +44,20 @@ pub fn listed(marks: &mut [u8], row: Row) -> Finding {
 
 fn is_listed(marks: &[u8], member: usize, address: usize) -> bool {
     let at = mark_of(member, address);
-    at < marks.len() && marks[at] == 1
+    at < marks.len() && marks[at] != 0
+}
+
+// Marks an expected disagreement.
+pub fn found(marks: &mut [u8], member: usize, address: usize) {
+    let at = mark_of(member, address);
+    if at < marks.len() {
+        marks[at] = 2;
+    }
+}
+
+pub fn is_found(marks: &[u8], member: usize, address: usize) -> bool {
+    let at = mark_of(member, address);
+    at < marks.len() && marks[at] == 2
 }
 
 fn has_byte(place: Place, at: usize) -> bool {

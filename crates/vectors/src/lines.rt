@@ -2,6 +2,7 @@
 use crate::addresses;
 use crate::compare;
 use crate::compare::Finding;
+use crate::expected;
 use crate::report;
 use crate::tally;
 use crate::tally::Count;
@@ -14,7 +15,7 @@ fn noted(count: Count, row: Row, finding: Finding) -> Count {
         Finding::Nothing => count,
         Finding::Agrees => tally::compared(count, true),
         _ => {
-            report::difference(row, finding);
+            report::difference(row, finding, expected::is_expected(row, finding));
             tally::compared(count, false)
         }
     }
@@ -30,11 +31,10 @@ fn places(mut count: Count, text: &[u8], row: Row) -> Count {
 }
 
 // Where a row names a dot that the chip has not, differences in its type, reserved bits and places follow from that.
-fn compared(count: Count, text: &[u8], row: Row) -> Count {
+fn compared(count: Count, text: &[u8], row: Row, dots: Finding) -> Count {
     let count = noted(count, row, compare::default(row));
-    let finding = compare::dots(text, row);
-    let count = noted(count, row, finding);
-    if let Finding::NoDot(_, _) = finding {
+    let count = noted(count, row, dots);
+    if let Finding::NoDot(_, _) = dots {
         return count;
     }
     let count = noted(count, row, compare::access(row));
@@ -42,14 +42,26 @@ fn compared(count: Count, text: &[u8], row: Row) -> Count {
     places(count, text, row)
 }
 
+fn marked(marks: &mut [u8], row: Row, finding: Finding) {
+    if expected::is_expected(row, finding) {
+        addresses::found(marks, row.member, row.address);
+    }
+}
+
+fn row_compared(count: Count, text: &[u8], row: Row, marks: &mut [u8]) -> Count {
+    let writable = map::writable(row.member, row.address);
+    let count = tally::listed(count, writable, row.default == rows::LOST);
+    let count = noted(count, row, addresses::listed(marks, row));
+    let dots = compare::dots(text, row);
+    marked(marks, row, dots);
+    compared(count, text, row, dots)
+}
+
 fn row_counted(mut tally: Tally, text: &[u8], row: Row, marks: &mut [u8]) -> Tally {
     let member = row.member;
     if member < 5 {
         let count = tally.members[member];
-        let writable = map::writable(member, row.address);
-        let count = tally::listed(count, writable, row.default == rows::LOST);
-        let count = noted(count, row, addresses::listed(marks, row));
-        tally.members[member] = compared(count, text, row);
+        tally.members[member] = row_compared(count, text, row, marks);
     }
     tally
 }

@@ -1,9 +1,10 @@
-// Compares the rows of the five data sheets' summary tables, in the file that its first argument names, with the register
+// Compares the rows of the five data sheets' summary tables, in the file that its argument names, with the register
 // map, and what the map has for the addresses in no row with document 01. It prints a line for each disagreement and for each
-// line that does not parse, and then what it counted.
+// line that does not parse, then what it counted, and at last whether the disagreements are the expected ones and no others.
 mod addresses;
 mod compare;
 mod examples;
+mod expected;
 mod lines;
 mod report;
 mod tally;
@@ -123,17 +124,20 @@ fn finish(tally: Tally, marks: &[u8]) {
         let count = member_counted(member, members[member], marks);
         total = tally::together(total, count);
     }
-    report::total(tally::together(total, examples::run()), tally.broken);
+    let total = tally::together(total, examples::run());
+    report::total(total, tally.broken);
+    report::verdict(expected::met(marks, total.disagreements, tally.broken));
 }
 
 fn main() {
+    if os::arg_count() != 2 {
+        report::usage();
+        return;
+    }
     let mut path = io::buffer();
     let length = os::arg(1, &mut path);
     if os::errno() != 0 {
-        report::failed(
-            b"vectors: the first argument must name the file of rows",
-            b"",
-        );
+        report::failed(b"vectors: ", b"cannot take its argument");
         return;
     }
     let file = os::open_read(&path[..length]);

@@ -129,12 +129,22 @@ fn say_finding(row: Row, finding: Finding) {
     }
 }
 
-pub fn difference(row: Row, finding: Finding) {
+pub fn difference(row: Row, finding: Finding, expected: bool) {
     say_member(row.member);
     say_address(b" ", row.address);
     say(b": ");
     say_finding(row, finding);
+    if expected {
+        say(b" (expected)");
+    }
     say(b"\n");
+}
+
+// A row that is expected to name a dot which its chip has not.
+pub fn not_found(member: usize, address: usize) {
+    say_member(member);
+    say_address(b" ", address);
+    say(b": an expected disagreement was not found\n");
 }
 
 pub fn broken(line: u64) {
@@ -202,8 +212,23 @@ pub fn example(text: &[u8], agrees: bool) {
     }
 }
 
-pub fn failed(text: &[u8], path: &[u8]) {
-    io::write_all(STDERR_FILENO, text);
-    io::write_all(STDERR_FILENO, path);
-    io::write_all(STDERR_FILENO, b"\n");
+pub fn verdict(as_expected: bool) {
+    if as_expected {
+        say(b"as expected\n");
+    } else {
+        say(b"NOT as expected\n");
+    }
+}
+
+pub fn usage() {
+    io::write_all(
+        STDERR_FILENO,
+        b"vectors: takes one argument, the file of rows\n",
+    );
+}
+
+// What failed, and the reason.
+pub fn failed(what: &[u8], path: &[u8]) {
+    io::write_all(STDERR_FILENO, what);
+    os::fail(path);
 }

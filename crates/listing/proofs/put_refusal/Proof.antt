@@ -2,7 +2,7 @@
 -- Assumes nothing.
 use mathlib.Core.Path.{ap}
 use Rattle.text.specs.Text.{decimalText}
-use Rattle.text.specs.TextLaws.{puts-then, puts-as}
+use Rattle.text.specs.TextLaws.{puts-as}
 use Rattle.listing.specs.Show.{refusalText}
 use borrow.Author.Needs.{needs}
 use Rattle.listing.proofs.put_refusal.Statement.{statement}
@@ -17,25 +17,16 @@ cast-put-decimal c = search needs
 put-decimal-requires : tie.Need-put-decimal-requires
 put-decimal-requires c κs = search needs
 
-put-requires : tie.Need-put-requires
-put-requires c κs = search needs
-
 same-length : tie.Need-same-length
 same-length c = search needs
 
 returns : tie.Need-returns
 unfolding refusalText
 returns c =
-    let number = c .before .before .before .before .before .before in
-    puts-then _ _ _ _ _ _ _ _ (puts-as _ _ _ _ _ _ (ap decimalText (number .before .refusal-number .ensures)) (number .put-decimal .ensures)) (c .before .before .put .ensures)
+    let number = c .before .before in
+    puts-as _ _ _ _ _ _ (ap decimalText (number .before .refusal-number .ensures)) (number .put-decimal .ensures)
 
 pub put-refusal-spec : {M : Type 1} → statement M
 put-refusal-spec =
     tie.close
-    (tie.spec
-    refusal-number-requires
-    cast-put-decimal
-    put-decimal-requires
-    put-requires
-    same-length
-    returns)
+    (tie.spec refusal-number-requires cast-put-decimal put-decimal-requires same-length returns)

@@ -14,27 +14,17 @@ put-requires c κs = search needs
 put-decimal-requires-2 : tie.Need-put-decimal-requires-2
 put-decimal-requires-2 c κs = search needs
 
-put-requires-2 : tie.Need-put-requires-2
-put-requires-2 c κs = search needs
-
 same-length : tie.Need-same-length
 same-length c = search needs
 
 returns : tie.Need-returns
 returns c =
-    let ended = c .before .before in
-    let second = ended .before .before .before .before in
+    let second = c .before .before in
     let spaced = second .before .before .before .before in
     let first = spaced .before .before .before .before in
-    sizes-put _ _ _ _ _ _ _ _ _ _ _ (first .put-decimal .ensures) (spaced .put .ensures) (second .put-decimal2 .ensures) (ended .put2 .ensures)
+    sizes-put _ _ _ _ _ _ _ _ _ _ (first .put-decimal .ensures) (spaced .put .ensures) (second .put-decimal2 .ensures)
 
 pub put-sizes-spec : {M : Type 1} → statement M
 put-sizes-spec =
     tie.close
-    (tie.spec
-    put-decimal-requires
-    put-requires
-    put-decimal-requires-2
-    put-requires-2
-    same-length
-    returns)
+    (tie.spec put-decimal-requires put-requires put-decimal-requires-2 same-length returns)

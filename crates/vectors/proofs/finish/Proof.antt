@@ -47,6 +47,12 @@ together-requires-2 c κs = search needs
 total-requires : tie.Need-total-requires Inv-loop μ-loop
 total-requires c κs = search needs
 
+met-requires : tie.Need-met-requires Inv-loop μ-loop
+met-requires c κs = search needs
+
+verdict-requires : tie.Need-verdict-requires Inv-loop μ-loop
+verdict-requires c κs = search needs
+
 returns : tie.Need-returns Inv-loop μ-loop
 returns c = search needs
 
@@ -68,4 +74,6 @@ finish-spec =
     run-requires
     together-requires-2
     total-requires
+    met-requires
+    verdict-requires
     returns)

@@ -1,10 +1,10 @@
--- `list_cases::report::whole` is safe and ends.
+-- `list_cases::report::whole_on` is safe and ends.
 -- Assumes nothing.
 use mathlib.Core.Path.{sym}
 use lib.Seq.{length-take-le}
 use borrow.Author.Needs.{needs}
-use Rattle.list_cases.proofs.report.whole.Statement.{statement}
-use Rattle.list_cases.proofs.report.whole.Tie as tie
+use Rattle.list_cases.proofs.report.whole_on.Statement.{statement}
+use Rattle.list_cases.proofs.report.whole_on.Tie as tie
 
 say-line-requires : tie.Need-say-line-requires
 say-line-requires c κs = search needs
@@ -27,8 +27,8 @@ say-requires c κs = search needs
 returns : tie.Need-returns
 returns c = search needs
 
-pub whole-spec : {M : Type 1} → statement M
-whole-spec =
+pub whole-on-spec : {M : Type 1} → statement M
+whole-on-spec =
     tie.close
     (tie.spec
     say-line-requires

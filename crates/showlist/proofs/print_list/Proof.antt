@@ -1,10 +1,10 @@
--- `showlist::main` is safe and ends.
+-- `showlist::print_list` is safe and ends.
 -- Assumes nothing.
 use mathlib.Core.Path.{sym}
 use lib.Seq.{length-take-le}
 use borrow.Author.Needs.{needs}
-use Rattle.showlist.proofs.main.Statement.{statement}
-use Rattle.showlist.proofs.main.Tie as tie
+use Rattle.showlist.proofs.print_list.Statement.{statement}
+use Rattle.showlist.proofs.print_list.Tie as tie
 
 slice-aggregate-read-full : tie.Need-slice-aggregate-read-full
 slice-aggregate-read-full c = search needs
@@ -36,8 +36,8 @@ write-all-requires c κs = search needs
 returns : tie.Need-returns
 returns c = search needs
 
-pub main-spec : {M : Type 1} → statement M
-main-spec =
+pub print-list-spec : {M : Type 1} → statement M
+print-list-spec =
     tie.close
     (tie.spec
     slice-aggregate-read-full
