@@ -1,0 +1,3 @@
+pub mod Pictures
+pub mod PictureLaws
+pub mod PictureExamples
