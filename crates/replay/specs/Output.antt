@@ -3,7 +3,7 @@
 use mathlib.Core.Bool.{cond}
 use Prim.Native.Nat.{ℕ, _-_}
 use lib.Dec.{leb}
-use Rattle.session.specs.Play.{longestLine}
+use Rattle.player.specs.Play.{longestLine}
 
 -- how much waits after a line: all of it while the longest line has room behind it, else it is written and none waits
 unfoldable pub waiting : ℕ → ℕ → ℕ

@@ -10,7 +10,7 @@ use lib.Dec.{leb}
 use lib.ListN.{length, take}
 use Rattle.text.specs.Text.{Puts}
 use Rattle.text.specs.TextLaws.{after-room, placed-room, puts-length}
-use Rattle.session.specs.Play.{longestLine}
+use Rattle.player.specs.Play.{longestLine}
 use Rattle.replay.specs.Output.{waiting}
 
 pub waits-on : (size at : ℕ) → longestLine ≤ size - at → at ≡ waiting size at

@@ -1,5 +1,5 @@
 // Plays a script of calls on a host record and a chip model: it reads the script from standard input, one call a line, and writes
-// one line for each. docs/REPLAY.md has the lines.
+// what each line prints. docs/REPLAY.md has the lines.
 //
 // The script has any length. It is read in blocks; the line that is not over yet is carried from block to block in a buffer of
 // its own, and what is to be written waits in a third until the block is played or the longest line has no room behind it.
@@ -10,18 +10,18 @@ ghost use mathlib.Core.Bool.{false, cond};
 ghost use mathlib.Core.List.{_++_};
 ghost use Prim.Native.Nat.{_+_, _≤_};
 ghost use lib.ListN.{length, take};
-ghost use Rattle.session.specs.Play.{sessionAfter, printed, longestLine};
+ghost use Rattle.player.specs.Play.{playerAfter, printed, longestLine};
 use output::Output;
-use session::Session;
+use player::Player;
 
-// One byte more than the longest line that is a call has. A longer line is cut to this, which is no call either.
-const LINE: usize = script::LONGEST + 1;
+// Two bytes more than the longest line that is a call has: its CR, and one more. A longer line is cut to this, which is no call either.
+const LINE: usize = script::LONGEST + 2;
 
 const TEXT: usize = 65536;
 
 // What is kept from line to line.
-struct Player {
-    session: Session,
+struct Reading {
+    player: Player,
     // of the line so far
     length: usize,
     output: Output,
@@ -29,16 +29,16 @@ struct Player {
     more: bool,
 }
 
-fn new_player() -> Player
+fn new_reading() -> Reading
     ensures { λ r. ⌜ (r .length ≡ 0) × (r .output .at ≡ 0) ⌝ }
 {
-    let session = session::start();
+    let player = player::start();
     let output = Output {
         at: 0,
         failed: false,
     };
-    Player {
-        session: session,
+    Reading {
+        player: player,
         length: 0,
         output: output,
         more: true,
@@ -47,39 +47,39 @@ fn new_player() -> Player
 
 // A line that is over: with room for the longest line, all that it prints stands behind the text that waits. The next line is empty
 // so far.
-fn play(mut player: Player, line: &[u8], text: &mut [u8]) -> Player
-    requires { ⌜ player .output .at + longestLine ≤ length (now text) ⌝ }
-    ensures { λ r. ⌜ r .session ≡ sessionAfter (player .session) (now (line .entry)) ⌝ }
-    ensures { λ r. ⌜ take (r .output .at) (now (text .exit)) ≡ take (player .output .at) (now (text .entry)) ++ printed (player .session) (now (line .entry)) ⌝ }
+fn play(mut reading: Reading, line: &[u8], text: &mut [u8]) -> Reading
+    requires { ⌜ reading .output .at + longestLine ≤ length (now text) ⌝ }
+    ensures { λ r. ⌜ r .player ≡ playerAfter (reading .player) (now (line .entry)) ⌝ }
+    ensures { λ r. ⌜ take (r .output .at) (now (text .exit)) ≡ take (reading .output .at) (now (text .entry)) ++ printed (reading .player) (now (line .entry)) ⌝ }
     ensures { λ r. ⌜ r .output .at ≤ length (now (text .exit)) ⌝ }
     ensures { λ r. ⌜ r .length ≡ 0 ⌝ }
 {
-    let session = player.session;
-    let mut output = player.output;
-    let played = session::play(session, line, text, output.at);
-    let session = played.session;
+    let player = reading.player;
+    let mut output = reading.output;
+    let played = player::play(player, line, text, output.at);
+    let player = played.player;
     output.at = played.at;
-    player.session = session;
-    player.length = 0;
-    player.output = output;
-    player
+    reading.player = player;
+    reading.length = 0;
+    reading.output = output;
+    reading
 }
 
 // The line, where it is over, is played whole. Behind it there is room for another.
-fn line_ended(player: Player, over: bool, line: &[u8], text: &mut [u8]) -> Player
-    requires { ⌜ (player .length ≤ length (now line)) × (player .output .at + longestLine ≤ length (now text)) ⌝ }
-    ensures { λ r. ⌜ r .session ≡ cond over (sessionAfter (player .session) (take (player .length) (now (line .entry)))) (player .session) ⌝ }
+fn line_ended(reading: Reading, over: bool, line: &[u8], text: &mut [u8]) -> Reading
+    requires { ⌜ (reading .length ≤ length (now line)) × (reading .output .at + longestLine ≤ length (now text)) ⌝ }
+    ensures { λ r. ⌜ r .player ≡ cond over (playerAfter (reading .player) (take (reading .length) (now (line .entry)))) (reading .player) ⌝ }
     ensures { λ r. ⌜ (r .length ≤ length (now (line .entry))) × (r .output .at + longestLine ≤ length (now (text .exit))) ⌝ }
 {
     if !over {
-        return player;
+        return reading;
     }
-    let length = player.length;
-    let mut player = play(player, &line[..length], text);
-    let output = player.output;
+    let length = reading.length;
+    let mut reading = play(reading, &line[..length], text);
+    let output = reading.output;
     let output = output::with_room(text, output);
-    player.output = output;
-    player
+    reading.output = output;
+    reading
 }
 
 // The line so far with these bytes behind it, as many as its buffer has room for. It answers the length.
@@ -100,82 +100,90 @@ fn line_end(block: &[u8], from: usize) -> usize
 }
 
 // The lines of a block; none after a write that failed.
-fn play_block(mut player: Player, block: &[u8], line: &mut [u8], text: &mut [u8]) -> Player
-    requires { ⌜ (length (now block) ≤ 65536) × (player .length ≤ length (now line)) × (player .output .at + longestLine ≤ length (now text)) ⌝ }
+fn play_block(mut reading: Reading, block: &[u8], line: &mut [u8], text: &mut [u8]) -> Reading
+    requires { ⌜ (length (now block) ≤ 65536) × (reading .length ≤ length (now line)) × (reading .output .at + longestLine ≤ length (now text)) ⌝ }
     ensures { λ r. ⌜ (r .length ≤ length (now (line .exit))) × (r .output .at + longestLine ≤ length (now (text .exit))) ⌝ }
 {
     let mut from = 0;
-    while from < block.len() && !player.output.failed {
+    while from < block.len() && !reading.output.failed {
         let to = line_end(block, from);
-        player.length = lengthened(line, player.length, &block[from..to]);
-        player = line_ended(player, to < block.len(), line, text);
+        reading.length = lengthened(line, reading.length, &block[from..to]);
+        reading = line_ended(reading, to < block.len(), line, text);
         from = to + 1;
     }
-    player
+    reading
 }
 
 // Nothing more is read, and a line that is not over is not played: it may have been cut.
-fn stopped(mut player: Player) -> Player
-    ensures { λ r. ⌜ (r .more ≡ false) × (r .length ≡ 0) × (r .output .at ≡ player .output .at) ⌝ }
+fn stopped(mut reading: Reading) -> Reading
+    ensures { λ r. ⌜ (r .more ≡ false) × (r .length ≡ 0) × (r .output .at ≡ reading .output .at) ⌝ }
 {
-    player.length = 0;
-    player.more = false;
-    player
+    reading.length = 0;
+    reading.more = false;
+    reading
 }
 
 // After a block, of which `read` answered so much, the text is written.
-fn block_ended(mut player: Player, got: isize, text: &[u8]) -> Player
-    requires { ⌜ player .output .at ≤ length (now text) ⌝ }
-    ensures { λ r. ⌜ (r .length ≤ player .length) × (r .output .at ≡ 0) ⌝ }
+fn block_ended(mut reading: Reading, got: isize, text: &[u8]) -> Reading
+    requires { ⌜ reading .output .at ≤ length (now text) ⌝ }
+    ensures { λ r. ⌜ (r .length ≤ reading .length) × (r .output .at ≡ 0) ⌝ }
 {
-    let output = player.output;
+    let output = reading.output;
     let output = output::flushed(text, output);
     let failed = output.failed;
-    player.output = output;
-    player.more = 0 < got;
+    reading.output = output;
+    reading.more = 0 < got;
     if failed {
-        return stopped(player);
+        return stopped(reading);
     }
     if got < 0 {
-        return stopped(player);
+        return stopped(reading);
     }
-    player
+    reading
 }
 
-fn play_some(player: Player, line: &mut [u8], text: &mut [u8]) -> Player
-    requires { ⌜ (player .length ≤ length (now line)) × (player .output .at + longestLine ≤ length (now text)) ⌝ }
+fn play_some(reading: Reading, line: &mut [u8], text: &mut [u8]) -> Reading
+    requires { ⌜ (reading .length ≤ length (now line)) × (reading .output .at + longestLine ≤ length (now text)) ⌝ }
     ensures { λ r. ⌜ (r .length ≤ length (now (line .exit))) × (r .output .at + longestLine ≤ length (now (text .exit))) ⌝ }
 {
     let mut block = io::large_buffer();
     let got = output::read_some(&mut block);
     let n = io::count(got, &block);
-    let player = play_block(player, &block[..n], line, text);
-    block_ended(player, got, text)
+    let reading = play_block(reading, &block[..n], line, text);
+    block_ended(reading, got, text)
 }
 
 // A proved loop has to end, and nothing says that the input does. So the loop counts its turns down, from a number that no run
 // uses up.
-fn play_all(line: &mut [u8], text: &mut [u8]) -> Player
+fn play_all(line: &mut [u8], text: &mut [u8]) -> Reading
     requires { ⌜ longestLine ≤ length (now text) ⌝ }
     ensures { λ r. ⌜ (r .length ≤ length (now (line .exit))) × (r .output .at + longestLine ≤ length (now (text .exit))) ⌝ }
 {
-    let mut player = new_player();
+    let mut reading = new_reading();
     let mut turns = u64::MAX;
-    while 0 < turns && player.more {
-        player = play_some(player, line, text);
+    while 0 < turns && reading.more {
+        reading = play_some(reading, line, text);
         turns -= 1;
     }
-    player
+    reading
+}
+
+fn play_input() {
+    let mut line = [0u8; LINE];
+    let mut text = [0u8; TEXT];
+    let reading = play_all(&mut line, &mut text);
+    // the last line may lack its LF
+    if 0 < reading.length {
+        let reading = line_ended(reading, true, &line, &mut text);
+        let output = reading.output;
+        output::flushed(&text, output);
+    }
 }
 
 fn main() {
-    let mut line = [0u8; LINE];
-    let mut text = [0u8; TEXT];
-    let player = play_all(&mut line, &mut text);
-    // the last line may lack its LF
-    if 0 < player.length {
-        let player = line_ended(player, true, &line, &mut text);
-        let output = player.output;
-        output::flushed(&text, output);
+    if 1 < os::arg_count() {
+        output::usage();
+        return;
     }
+    play_input();
 }

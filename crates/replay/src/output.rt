@@ -80,7 +80,7 @@ pub(crate) fn with_room(text: &[u8], output: Output) -> Output
     requires { ⌜ output .at ≤ length (now text) ⌝ }
     ensures { λ r. ⌜ r .at ≡ waiting (length (now (text .entry))) (output .at) ⌝ }
 {
-    if session::LONGEST_LINE <= text.len() - output.at {
+    if player::LONGEST_LINE <= text.len() - output.at {
         return output;
     }
     flushed(text, output)
@@ -101,4 +101,11 @@ pub(crate) fn read_some(block: &mut [u8]) -> isize {
         turns -= 1;
     }
     -1
+}
+
+pub(crate) fn usage() {
+    io::write_all(
+        libc::STDERR_FILENO,
+        b"replay: takes no arguments, reads a script from standard input\n",
+    );
 }

@@ -47,3 +47,7 @@ replyText (Differs a) b = differsWord ++ addressText a
 -- "writes one line for each call"
 unfoldable pub replyLine : Reply → List ℕ → List ℕ
 replyLine r b = replyText r b ++ (0x0A ∷ [])
+
+-- "`echo on` puts the line's number and the call before its answer", in a line of their own: n is the number, l the line
+unfoldable pub echoLine : ℕ → List ℕ → List ℕ
+echoLine n l = decimalText n ++ (0x20 ∷ (l ++ (0x0A ∷ [])))

@@ -4,7 +4,7 @@ ghost use mathlib.Core.Path.{_≡_};
 ghost use mathlib.Core.Bool.{cond};
 ghost use mathlib.Core.List.{[], _++_};
 ghost use Rattle.map.specs.Refusals.{numbersIn};
-ghost use Rattle.replies.specs.Replies.{valueText, numbersText, lentText, differsWord, replyText, replyLine};
+ghost use Rattle.replies.specs.Replies.{valueText, numbersText, lentText, differsWord, replyText, replyLine, echoLine};
 ghost use Rattle.text.specs.Text.{Puts, addressText};
 use map::Numbers;
 use text::put;
@@ -92,5 +92,15 @@ pub fn put_line(text: &mut [u8], at: usize, reply: Reply, bytes: &[u8]) -> usize
     ensures { λ r. ⌜ Puts (now (text .entry)) at (replyLine reply (now (bytes .entry))) (now (text .exit)) r ⌝ }
 {
     let next = put_reply(text, at, reply, bytes);
+    put(text, next, b'\n')
+}
+
+// A line before the reply: the number of the script's line, and the line itself.
+pub fn put_echo(text: &mut [u8], at: usize, number: usize, line: &[u8]) -> usize
+    ensures { λ r. ⌜ Puts (now (text .entry)) at (echoLine number (now (line .entry))) (now (text .exit)) r ⌝ }
+{
+    let next = put_decimal(text, at, number);
+    let next = put(text, next, b' ');
+    let next = put_text(text, next, line);
     put(text, next, b'\n')
 }

@@ -4,20 +4,25 @@ use mathlib.Core.Path.{_≡_, refl, sym, ap, _∙_}
 use mathlib.Core.Bool.{Bool, true, false}
 use mathlib.Core.List.{List, []}
 use Prim.Native.Nat.{ℕ, zero, suc, _+_, _-_, _*_, _/_, _≤_, _<_}
+use Prim.Native.Char.{code}
 use native.Mathlib.Nat.{add-zero, add-suc, suc-add, zero-add, sub-eq-zero-of-le}
 use native.Mathlib.Numerals.{add-one}
 use native.Mathlib.Omega.{arith}
 use borrow.Author.Tests.{ltb-true, ltb-false, lt-ltb, le-ltb, le-leb, lt-leb, eq-eqb, ne-eqb}
-use lib.Dec.{ltb}
+use lib.Dec.{ltb, eqb}
 use lib.ListN.{length, getD, take, drop, List·getD-map, List·getD-eq-default}
 use lib.Seq.{drop-length, take-nil}
 use Rattle.script.specs.declared.command.Command as command
+use Rattle.script.specs.declared.command.Line.{Line}
+use Rattle.script.specs.declared.command.Line.the-variants.{Run, Aside}
+use Rattle.script.specs.declared.command.Aside.the-variants.{Silent, Lamps}
+use Rattle.script.specs.declared.command.Part.the-variants.{Chip}
 use Rattle.script.specs.declared.numbers.Number.{Number}
 use Rattle.script.specs.declared.numbers.Number.the-variants.{Value, Bad}
 use Rattle.script.specs.declared.lines.Three as three
-use Rattle.script.specs.Words.{wordAt, wordCount, sameText}
+use Rattle.script.specs.Words.{codes, wordAt, wordCount, sameText}
 use Rattle.script.specs.Table.{rowAt, cellAt, columnFrom, columnOf, placeOf}
-use Rattle.script.specs.Lines.{Row, lines, firstWords, otherKinds, noLine, lineAt, namedOf, argumentOf, valueAt, threeOf, argumentsOf, callAt, calledBy, judged, commandOf}
+use Rattle.script.specs.Lines.{Row, lines, firstWords, otherKinds, noLine, lineAt, namedOf, argumentOf, valueAt, threeOf, argumentsOf, callAt, calledBy, judged, withoutCr, isSilent, tableLine, lineOf}
 use Rattle.script.proofs.Reading.{word-empty}
 
 -- ---- tables
@@ -137,13 +142,48 @@ kinds-at : (t : List ℕ) (k : ℕ) → columnOf t 1 ≡ otherKinds → cellAt t
 unfolding lineAt noLine otherKinds
 kinds-at t k e = cell-column t k 1 ∙ ap (λ (x : List (List ℕ)). getD x k []) e ∙ List·getD-map (λ (r : Row). r .kinds) lines k noLine
 
-pub judged-long : (l : List ℕ) → 8192 < length l → command.the-variants.Bad ≡ commandOf l
-unfolding commandOf
+pub silent-empty : (l : List ℕ) → length l ≡ 0 → true ≡ isSilent l
+unfolding isSilent
+silent-empty l h = rw (eq-eqb (length l) 0 h) refl
+
+pub silent-first : (l : List ℕ) → (length l ≡ 0 → ⊥) → eqb (getD l 0 0) (code "#") ≡ isSilent l
+unfolding isSilent
+silent-first l h = rw (ne-eqb (length l) 0 h) refl
+
+-- the CR at the end of a line
+pub trimmed-empty : (l : List ℕ) → length l ≡ 0 → l ≡ withoutCr l
+unfolding withoutCr
+trimmed-empty l h = rw (le-ltb 0 (length l) (omega arith)) refl
+
+pub trimmed-cut : (l : List ℕ) → (length l ≡ 0 → ⊥) → getD l (length l - 1) 0 ≡ 0x0D → take (length l - 1) l ≡ withoutCr l
+unfolding withoutCr
+trimmed-cut l h e = rw (lt-ltb 0 (length l) (omega arith), eq-eqb (getD l (length l - 1) 0) 0x0D e) refl
+
+pub trimmed-whole : (l : List ℕ) → (length l ≡ 0 → ⊥) → (getD l (length l - 1) 0 ≡ 0x0D → ⊥) → l ≡ withoutCr l
+unfolding withoutCr
+trimmed-whole l h n = rw (lt-ltb 0 (length l) (omega arith), ne-eqb (getD l (length l - 1) 0) 0x0D n) refl
+
+-- a line that is a comment or empty, the word `lamps` alone, and any other
+pub line-silent : (l : List ℕ) (b : Bool) → b ≡ isSilent l → b ≡ true → Aside Silent ≡ lineOf l
+unfolding lineOf
+line-silent l b e t = rw (sym e ∙ t) refl
+
+module _ (l : List ℕ) (b : Bool) (e : b ≡ isSilent l) (f : b ≡ false) where
+  pub line-lamps : (t : Bool) → t ≡ sameText l (codes "lamps") → t ≡ true → Aside (Lamps Chip) ≡ lineOf l
+  unfolding lineOf
+  line-lamps t et h = rw (sym e ∙ f, sym et ∙ h) refl
+
+  pub line-called : (t : Bool) (r : Line) → t ≡ sameText l (codes "lamps") → t ≡ false → r ≡ tableLine l → r ≡ lineOf l
+  unfolding lineOf
+  line-called t r et h er = er ∙ rw (sym e ∙ f, sym et ∙ h) refl
+
+pub judged-long : (l : List ℕ) → 8192 < length l → Run command.the-variants.Bad ≡ tableLine l
+unfolding tableLine
 judged-long l h = rw (lt-leb (length l) 8192 h) refl
 
-pub judged-by : (l t w ks : List ℕ) (k : ℕ) (x : three.Three) (r : command.Command) → length l ≤ 8192 → (columnOf t 0 ≡ firstWords) × (columnOf t 1 ≡ otherKinds) →
-    w ≡ wordAt l 0 → k ≡ placeOf w (columnOf t 0) → ks ≡ cellAt t k 1 → x ≡ argumentsOf ks l → r ≡ calledBy k x → r ≡ commandOf l
-unfolding commandOf judged
+pub judged-by : (l t w ks : List ℕ) (k : ℕ) (x : three.Three) (r : Line) → length l ≤ 8192 → (columnOf t 0 ≡ firstWords) × (columnOf t 1 ≡ otherKinds) →
+    w ≡ wordAt l 0 → k ≡ placeOf w (columnOf t 0) → ks ≡ cellAt t k 1 → x ≡ argumentsOf ks l → r ≡ calledBy k x → r ≡ tableLine l
+unfolding tableLine judged
 judged-by l t w ks k x r h et ew ek es ex er =
     let place : k ≡ placeOf (wordAt l 0) firstWords = ek ∙ rw (ew, et .0) refl in
     let kinds : ks ≡ lineAt k .kinds = es ∙ kinds-at t k (et .1) in
@@ -161,11 +201,11 @@ others-above k (suc n) o =
     omega (arith, least, o .1)
 
 -- behind the last row there is no line
-pub no-call : (k a b c : ℕ) → length lines ≤ k → command.the-variants.Bad ≡ callAt k a b c
+pub no-call : (k a b c : ℕ) → length lines ≤ k → Run command.the-variants.Bad ≡ callAt k a b c
 unfolding callAt lineAt noLine
 no-call k a b c h = ap (λ (r : Row). r .call a b c) (sym (List·getD-eq-default lines noLine h))
 
-pub call-behind : (k n a b c : ℕ) (r : command.Command) → n ≤ k → r ≡ callAt (n + (k - n)) a b c → r ≡ callAt k a b c
+pub call-behind : (k n a b c : ℕ) (r : Line) → n ≤ k → r ≡ callAt (n + (k - n)) a b c → r ≡ callAt k a b c
 call-behind k n a b c r h e =
     let same : n + (k - n) ≡ k = omega arith in
     e ∙ ap (λ (j : ℕ). callAt j a b c) same

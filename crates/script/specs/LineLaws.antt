@@ -12,17 +12,22 @@ use Rattle.calls.specs.declared.Request.{Request}
 use Rattle.calls.specs.declared.Request.the-variants.{Set, Reset, PowerLost, Update}
 use Rattle.script.specs.declared.command.Command.{Command}
 use Rattle.script.specs.declared.command.Command.the-variants.{Bad, Open, Call, ClearOpens, ClearShorts, Feed, Faults, Show, Poke, Header, Check}
+use Rattle.script.specs.declared.command.Line.{Line}
+use Rattle.script.specs.declared.command.Line.the-variants.{Run, Aside}
+use Rattle.script.specs.declared.command.Aside as asides
+use Rattle.script.specs.declared.command.Aside.the-variants.{Silent, Echo, Lamps, FaultMap, Diff, List as LastList}
 use Rattle.script.specs.declared.command.Lent.{Lent}
 use Rattle.script.specs.declared.command.Lent.the-variants.{Nothing, Word, Room}
+use Rattle.script.specs.declared.command.Part.the-variants.{Chip}
 use Rattle.script.specs.declared.numbers.Number.{Number}
 use Rattle.script.specs.declared.numbers.Number.the-variants.{Value, Bad as NoNumber}
 use Rattle.script.specs.declared.lines.Three.the-variants.{Bad as NotAll}
-use Rattle.script.specs.Words.{wordAt, wordCount}
+use Rattle.script.specs.Words.{codes, wordAt, wordCount, sameText}
 use Rattle.script.specs.Numbers.{allDigits, valueFrom, isNumeral, numeralOf}
 use Rattle.script.specs.Bytes.{isBytes}
 use Rattle.script.specs.Table.{placeOf}
-use Rattle.script.specs.Lines.{decimal, hex, byte, small, address, room, bytes, part, entry, parts, entries}
-use Rattle.script.specs.Lines.{Row, lines, firstWords, noLine, lineAt, namedOf, argumentOf, valueAt, threeOf, argumentsOf, callAt, calledBy, judged, commandOf}
+use Rattle.script.specs.Lines.{decimal, hex, byte, small, address, room, bytes, part, entry, onOff, parts, entries, switches}
+use Rattle.script.specs.Lines.{Row, lines, firstWords, noLine, lineAt, namedOf, argumentOf, valueAt, threeOf, argumentsOf, callAt, calledBy, judged, isSilent, tableLine, lineOf}
 
 -- ---- what a command asks for is there: the line of a byte string has at most 8,192 bytes, a buffer at most 4,096, and a byte that is put
 -- behind the calls' back is one, at an address below 908
@@ -41,18 +46,30 @@ BufferFits Reset (Room n) = 0 ≤ 0
 BufferFits PowerLost (Room n) = 1 ≤ 0
 BufferFits Update (Room n) = 0 ≤ 0
 
-unfoldable pub Fits : List ℕ → Command → Type 0
-Fits l Bad = 0 ≤ 0
-Fits l (Open m b p) = 0 ≤ 0
-Fits l (Call q lent) = LentFits l lent × BufferFits q lent
-Fits l (ClearOpens n) = n ≤ 4096
-Fits l (ClearShorts n) = n ≤ 4096
-Fits l (Feed n) = length l ≤ 8192
-Fits l (Faults m k n) = (length l ≤ 8192) × (n ≤ 4096)
-Fits l (Show p) = 0 ≤ 0
-Fits l (Poke p a v) = (a < 908) × (v < 256)
-Fits l (Header e v) = v < 256
-Fits l Check = 0 ≤ 0
+unfoldable pub AsideFits : List ℕ → asides.Aside → Type 0
+AsideFits l Silent = 0 ≤ 0
+AsideFits l (Echo on) = 0 ≤ 0
+AsideFits l (Lamps p) = 0 ≤ 0
+AsideFits l (FaultMap n) = length l ≤ 8192
+AsideFits l Diff = 0 ≤ 0
+AsideFits l LastList = 0 ≤ 0
+
+unfoldable pub CommandFits : List ℕ → Command → Type 0
+CommandFits l Bad = 0 ≤ 0
+CommandFits l (Open m b p) = 0 ≤ 0
+CommandFits l (Call q lent) = LentFits l lent × BufferFits q lent
+CommandFits l (ClearOpens n) = n ≤ 4096
+CommandFits l (ClearShorts n) = n ≤ 4096
+CommandFits l (Feed n) = length l ≤ 8192
+CommandFits l (Faults m k n) = (length l ≤ 8192) × (n ≤ 4096)
+CommandFits l (Show p) = 0 ≤ 0
+CommandFits l (Poke p a v) = (a < 908) × (v < 256)
+CommandFits l (Header e v) = v < 256
+CommandFits l Check = 0 ≤ 0
+
+unfoldable pub Fits : List ℕ → Line → Type 0
+Fits l (Run c) = CommandFits l c
+Fits l (Aside x) = AsideFits l x
 
 -- the most that a word of a kind says
 mostOf : ℕ → ℕ
@@ -65,13 +82,14 @@ mostOf k =
     (cond (eqb k room) 4096
     (cond (eqb k bytes) 0
     (cond (eqb k part) 3
-    (cond (eqb k entry) 3 0))))))))
+    (cond (eqb k entry) 3
+    (cond (eqb k onOff) 2 0)))))))))
 
 mostAt : List ℕ → ℕ → ℕ
 mostAt ks n = cond (ltb n (length ks)) (mostOf (getD ks n 0)) 0
 
 -- what a row calls with words that say no more than their kinds allow
-callWithin : Row → ℕ → ℕ → ℕ → Command
+callWithin : Row → ℕ → ℕ → ℕ → Line
 callWithin r a b c = r .call (min a (mostAt (r .kinds) 0)) (min b (mostAt (r .kinds) 1)) (min c (mostAt (r .kinds) 2))
 
 EachFits : List ℕ → List Row → ℕ → ℕ → ℕ → Type 0
@@ -79,11 +97,11 @@ EachFits l [] a b c = 0 ≤ 0
 EachFits l (r ∷ rs) a b c = Fits l (callWithin r a b c) × EachFits l rs a b c
 
 each-line-fits : (l : List ℕ) (a b c : ℕ) → length l ≤ 8192 → EachFits l lines a b c
-unfolding EachFits lines callWithin Fits LentFits BufferFits mostAt mostOf
-each-line-fits l a b c h = omega arith
+unfolding EachFits lines callWithin Fits CommandFits AsideFits LentFits BufferFits mostAt mostOf
+each-line-fits l a b c h = (omega arith, (omega arith, (omega arith, (omega arith, (omega arith, (omega arith, (omega arith, (omega arith, omega arith))))))))
 
 row-fits : (l : List ℕ) (rs : List Row) (k a b c : ℕ) → EachFits l rs a b c → Fits l (callWithin (getD rs k noLine) a b c)
-unfolding EachFits callWithin Fits noLine
+unfolding EachFits callWithin Fits CommandFits noLine
 row-fits l [] k a b c h = omega arith
 row-fits l (r ∷ rs) zero a b c h = h .0
 row-fits l (r ∷ rs) (suc k) a b c h = row-fits l rs k a b c (h .1)
@@ -124,7 +142,7 @@ named-most w names =
     (λ h. let inside = ltb-true (placeOf w names) (length names) h in omega arith)
 
 argument-most : (k : ℕ) (w : List ℕ) → Most (argumentOf k w) (mostOf k)
-unfolding argumentOf mostOf parts entries
+unfolding argumentOf mostOf parts entries switches
 argument-most k w =
     most-either (eqb k decimal) _ _ _ _ (numeral-most 10 4294967295 w)
     (most-either (eqb k hex) _ _ _ _ (numeral-most 16 4294967295 w)
@@ -134,7 +152,8 @@ argument-most k w =
     (most-either (eqb k room) _ _ _ _ (numeral-most 10 4096 w)
     (most-either (eqb k bytes) _ _ _ _ (most-when (isBytes w) 0 0 (λ h. omega arith))
     (most-either (eqb k part) _ _ _ _ (named-most w parts)
-    (most-either (eqb k entry) _ _ _ _ (named-most w entries) (most-bad 0)))))))))
+    (most-either (eqb k entry) _ _ _ _ (named-most w entries)
+    (most-either (eqb k onOff) _ _ _ _ (named-most w switches) (most-bad 0))))))))))
 
 value-most : (ks l : List ℕ) (n : ℕ) → Most (valueAt ks l n) (mostAt ks n)
 unfolding valueAt mostAt
@@ -144,7 +163,7 @@ within-is : (r : Row) (a b c : ℕ) → a ≤ mostAt (r .kinds) 0 → b ≤ most
 unfolding callWithin
 within-is r a b c ha hb hc = go (r .call) _ _ _ _ _ _ (omega arith) (omega arith) (omega arith)
   where
-    go : (f : ℕ → ℕ → ℕ → Command) (x y z u v w : ℕ) → x ≡ u → y ≡ v → z ≡ w → f x y z ≡ f u v w
+    go : (f : ℕ → ℕ → ℕ → Line) (x y z u v w : ℕ) → x ≡ u → y ≡ v → z ≡ w → f x y z ≡ f u v w
     go f x y z u v w p q r = rw (p, q, r) refl
 
 call-fits : (l : List ℕ) (k a b c : ℕ) → length l ≤ 8192 → a ≤ mostAt (lineAt k .kinds) 0 → b ≤ mostAt (lineAt k .kinds) 1 → c ≤ mostAt (lineAt k .kinds) 2 →
@@ -153,7 +172,7 @@ unfolding callAt lineAt
 call-fits l k a b c h ha hb hc = subst (Fits l) (within-is (lineAt k) a b c ha hb hc) (row-fits l lines k a b c (each-line-fits l a b c h))
 
 judged-fits : (l : List ℕ) (k : ℕ) → length l ≤ 8192 → Fits l (judged k l)
-unfolding judged argumentsOf threeOf calledBy Fits Most
+unfolding judged argumentsOf threeOf calledBy Fits CommandFits Most
 judged-fits l k h = go (eqb (wordCount l) (length ks + 1)) (valueAt ks l 0) (valueAt ks l 1) (valueAt ks l 2) (value-most ks l 0) (value-most ks l 1) (value-most ks l 2)
   where
     ks : List ℕ
@@ -167,14 +186,23 @@ judged-fits l k h = go (eqb (wordCount l) (length ks + 1)) (valueAt ks l 0) (val
     go true NoNumber y z p q r = omega arith
     go false x y z p q r = omega arith
 
-command-fits : (l : List ℕ) → Fits l (commandOf l)
-unfolding commandOf Fits
-command-fits l = go (leb (length l) 8192) refl
+table-fits : (l : List ℕ) → Fits l (tableLine l)
+unfolding tableLine Fits CommandFits
+table-fits l = go (leb (length l) 8192) refl
   where
-    go : (t : Bool) → leb (length l) 8192 ≡ t → Fits l (cond t (judged (placeOf (wordAt l 0) firstWords) l) Bad)
+    go : (t : Bool) → leb (length l) 8192 ≡ t → Fits l (cond t (judged (placeOf (wordAt l 0) firstWords) l) (Run Bad))
     go true e = judged-fits l (placeOf (wordAt l 0) firstWords) (leb-true (length l) 8192 e)
     go false e = omega arith
 
--- c is what `read` answers, d what it is
-pub fits : (l : List ℕ) (c d : Command) → c ≡ commandOf l → c ≡ d → Fits l d
-fits l c d e is = subst (Fits l) (sym e ∙ is) (command-fits l)
+line-fits : (l : List ℕ) → Fits l (lineOf l)
+unfolding lineOf Fits AsideFits
+line-fits l = go (isSilent l) (sameText l (codes "lamps")) (table-fits l)
+  where
+    go : (s t : Bool) → Fits l (tableLine l) → Fits l (cond s (Aside Silent) (cond t (Aside (Lamps Chip)) (tableLine l)))
+    go true t h = omega arith
+    go false true h = omega arith
+    go false false h = h
+
+-- x is what a line is
+pub fits : (l : List ℕ) (x : Line) → x ≡ lineOf l → Fits l x
+fits l x e = subst (Fits l) (sym e) (line-fits l)

@@ -1,16 +1,18 @@
 -- The lines of a script: docs/REPLAY.md's table, a row a line. l is the ASCII codes of a line, w those of a word.
 -- Assumes nothing.
-use mathlib.Core.Bool.{cond}
+use mathlib.Core.Bool.{Bool, cond, _&&_, _||_}
 use mathlib.Core.List.{List, [], _∷_, map}
-use Prim.Native.Nat.{ℕ, _+_}
+use Prim.Native.Nat.{ℕ, _+_, _-_}
 use Prim.Native.Char.{code}
 use Prim.Native.String.{String}
 use lib.Dec.{eqb, ltb, leb}
-use lib.ListN.{length, getD}
+use lib.ListN.{length, getD, take}
 use Rattle.calls.specs.declared.Setting.the-variants.{Register, Lamp, Group, Switch, Scene}
 use Rattle.calls.specs.declared.Request.the-variants.{Set, Reset, PowerLost, Update}
-use Rattle.script.specs.declared.command.Command.{Command}
 use Rattle.script.specs.declared.command.Command.the-variants.{Bad, Open, Call, ClearOpens, ClearShorts, Feed, Faults, Show, Poke, Header, Check}
+use Rattle.script.specs.declared.command.Line.{Line}
+use Rattle.script.specs.declared.command.Line.the-variants.{Run, Aside}
+use Rattle.script.specs.declared.command.Aside.the-variants.{Silent, Echo, Lamps, FaultMap, Diff, List as LastList}
 use Rattle.script.specs.declared.command.Lent.the-variants.{Nothing, Word, Room}
 use Rattle.script.specs.declared.command.Part.{Part}
 use Rattle.script.specs.declared.command.Part.the-variants.{Settings, Image, Chip}
@@ -20,7 +22,7 @@ use Rattle.script.specs.declared.numbers.Number.{Number}
 use Rattle.script.specs.declared.numbers.Number.the-variants.{Value, Bad as NoNumber}
 use Rattle.script.specs.declared.lines.Three.{Three}
 use Rattle.script.specs.declared.lines.Three.the-variants.{Values, Bad as NotAll}
-use Rattle.script.specs.Words.{codes, wordAt, wordCount}
+use Rattle.script.specs.Words.{codes, wordAt, wordCount, sameText}
 use Rattle.script.specs.Numbers.{numeralOf}
 use Rattle.script.specs.Bytes.{isBytes}
 use Rattle.script.specs.Table.{placeOf}
@@ -63,6 +65,10 @@ part = code "p"
 abbrev pub entry : ℕ
 entry = code "e"
 
+-- "`echo on`", "`echo off`"
+abbrev pub onOff : ℕ
+onOff = code "o"
+
 -- the words of W, and what each of them names
 unfoldable pub parts : List (List ℕ)
 parts = codes "settings" ∷ codes "image" ∷ codes "chip" ∷ []
@@ -77,39 +83,48 @@ entries = codes "member" ∷ codes "bus" ∷ codes "pins" ∷ []
 unfoldable pub entryAt : ℕ → Entry
 entryAt n = cond (eqb n 0) Member (cond (eqb n 1) Bus Pins)
 
+-- the words `on` and `off`
+unfoldable pub switches : List (List ℕ)
+switches = codes "on" ∷ codes "off" ∷ []
+
 -- ---- the table
 
--- a line's first word, the kinds of its other words, and the command that it is, by what those say
+-- a line's first word, the kinds of its other words, and what it is, by what those say
 pub record Row : Type 0 where
   pub text : List ℕ
   pub kinds : List ℕ
-  pub call : ℕ → ℕ → ℕ → Command
+  pub call : ℕ → ℕ → ℕ → Line
 
-abbrev row : String → List ℕ → (ℕ → ℕ → ℕ → Command) → Row
+abbrev row : String → List ℕ → (ℕ → ℕ → ℕ → Line) → Row
 row t ks f = record { text = codes t; kinds = ks; call = f }
 
 -- the settings that are lent nothing stand first
 unfoldable pub lines : List Row
 lines =
-    row "register" (hex ∷ byte ∷ []) (λ a v z. Call (Set (Register a v)) Nothing)
-    ∷ row "lamp" (decimal ∷ decimal ∷ decimal ∷ []) (λ l s v. Call (Set (Lamp l s v)) Nothing)
-    ∷ row "group" (decimal ∷ decimal ∷ decimal ∷ []) (λ l s g. Call (Set (Group l s g)) Nothing)
-    ∷ row "switch" (decimal ∷ decimal ∷ decimal ∷ []) (λ l s x. Call (Set (Switch l s x)) Nothing)
-    ∷ row "open" (decimal ∷ decimal ∷ decimal ∷ []) (λ m b p. Open m b p)
-    ∷ row "scene" (bytes ∷ []) (λ x y z. Call (Set Scene) (Word 1))
-    ∷ row "update" (room ∷ []) (λ n y z. Call Update (Room n))
-    ∷ row "reset" (room ∷ []) (λ n y z. Call Reset (Room n))
-    ∷ row "power" [] (λ x y z. Call PowerLost Nothing)
-    ∷ row "clearopens" (room ∷ []) (λ n y z. ClearOpens n)
-    ∷ row "clearshorts" (room ∷ []) (λ n y z. ClearShorts n)
-    ∷ row "feed" (bytes ∷ []) (λ x y z. Feed 1)
-    ∷ row "faults" (decimal ∷ bytes ∷ room ∷ []) (λ m y n. Faults m 2 n)
-    ∷ row "settings" [] (λ x y z. Show Settings)
-    ∷ row "image" [] (λ x y z. Show Image)
-    ∷ row "chip" [] (λ x y z. Show Chip)
-    ∷ row "poke" (part ∷ address ∷ byte ∷ []) (λ w a v. Poke (partAt w) a v)
-    ∷ row "header" (entry ∷ small ∷ []) (λ w v z. Header (entryAt w) v)
-    ∷ row "check" [] (λ x y z. Check)
+    row "register" (hex ∷ byte ∷ []) (λ a v z. Run (Call (Set (Register a v)) Nothing))
+    ∷ row "lamp" (decimal ∷ decimal ∷ decimal ∷ []) (λ l s v. Run (Call (Set (Lamp l s v)) Nothing))
+    ∷ row "group" (decimal ∷ decimal ∷ decimal ∷ []) (λ l s g. Run (Call (Set (Group l s g)) Nothing))
+    ∷ row "switch" (decimal ∷ decimal ∷ decimal ∷ []) (λ l s x. Run (Call (Set (Switch l s x)) Nothing))
+    ∷ row "open" (decimal ∷ decimal ∷ decimal ∷ []) (λ m b p. Run (Open m b p))
+    ∷ row "scene" (bytes ∷ []) (λ x y z. Run (Call (Set Scene) (Word 1)))
+    ∷ row "update" (room ∷ []) (λ n y z. Run (Call Update (Room n)))
+    ∷ row "reset" (room ∷ []) (λ n y z. Run (Call Reset (Room n)))
+    ∷ row "power" [] (λ x y z. Run (Call PowerLost Nothing))
+    ∷ row "clearopens" (room ∷ []) (λ n y z. Run (ClearOpens n))
+    ∷ row "clearshorts" (room ∷ []) (λ n y z. Run (ClearShorts n))
+    ∷ row "feed" (bytes ∷ []) (λ x y z. Run (Feed 1))
+    ∷ row "faults" (decimal ∷ bytes ∷ room ∷ []) (λ m y n. Run (Faults m 2 n))
+    ∷ row "settings" [] (λ x y z. Run (Show Settings))
+    ∷ row "image" [] (λ x y z. Run (Show Image))
+    ∷ row "chip" [] (λ x y z. Run (Show Chip))
+    ∷ row "poke" (part ∷ address ∷ byte ∷ []) (λ w a v. Run (Poke (partAt w) a v))
+    ∷ row "header" (entry ∷ small ∷ []) (λ w v z. Run (Header (entryAt w) v))
+    ∷ row "check" [] (λ x y z. Run Check)
+    ∷ row "lamps" (part ∷ []) (λ w y z. Aside (Lamps (partAt w)))
+    ∷ row "diff" [] (λ x y z. Aside Diff)
+    ∷ row "faultmap" (bytes ∷ []) (λ x y z. Aside (FaultMap 1))
+    ∷ row "echo" (onOff ∷ []) (λ w y z. Aside (Echo (eqb w 0)))
+    ∷ row "list" [] (λ x y z. Aside LastList)
     ∷ []
 
 -- the first word of each line
@@ -122,7 +137,7 @@ otherKinds = map (λ (r : Row). r .kinds) lines
 
 -- "A line that is no call"
 unfoldable pub noLine : Row
-noLine = row "" [] (λ x y z. Bad)
+noLine = row "" [] (λ x y z. Run Bad)
 
 -- row k, counted from 0
 unfoldable pub lineAt : ℕ → Row
@@ -145,7 +160,8 @@ argumentOf k w =
     (cond (eqb k room) (numeralOf 10 4096 w)
     (cond (eqb k bytes) (cond (isBytes w) (Value 0) NoNumber)
     (cond (eqb k part) (namedOf w parts)
-    (cond (eqb k entry) (namedOf w entries) NoNumber))))))))
+    (cond (eqb k entry) (namedOf w entries)
+    (cond (eqb k onOff) (namedOf w switches) NoNumber)))))))))
 
 -- what word n behind the first says; 0 where the row has none
 unfoldable pub valueAt : List ℕ → List ℕ → ℕ → Number
@@ -162,18 +178,30 @@ threeOf NoNumber y z = NotAll
 unfoldable pub argumentsOf : List ℕ → List ℕ → Three
 argumentsOf ks l = cond (eqb (wordCount l) (length ks + 1)) (threeOf (valueAt ks l 0) (valueAt ks l 1) (valueAt ks l 2)) NotAll
 
--- the command of row k
-unfoldable pub callAt : ℕ → ℕ → ℕ → ℕ → Command
+-- what a line of row k is
+unfoldable pub callAt : ℕ → ℕ → ℕ → ℕ → Line
 callAt k a b c = lineAt k .call a b c
 
-unfoldable pub calledBy : ℕ → Three → Command
+unfoldable pub calledBy : ℕ → Three → Line
 calledBy k (Values a b c) = callAt k a b c
-calledBy k NotAll = Bad
+calledBy k NotAll = Run Bad
 
 -- a line whose first word is that of row k
-unfoldable pub judged : ℕ → List ℕ → Command
+unfoldable pub judged : ℕ → List ℕ → Line
 judged k l = calledBy k (argumentsOf (lineAt k .kinds) l)
 
+-- "a CR right before the LF is dropped"
+unfoldable pub withoutCr : List ℕ → List ℕ
+withoutCr l = cond (ltb 0 (length l) && eqb (getD l (length l - 1) 0) 0x0D) (take (length l - 1) l) l
+
+-- "A line that begins with `#`, and an empty line"
+unfoldable pub isSilent : List ℕ → Bool
+isSilent l = eqb (length l) 0 || eqb (getD l 0 0) (code "#")
+
 -- "Words are judged before the call", and a line of "more than 8,192 bytes (its LF not counted) prints `?`"
-unfoldable pub commandOf : List ℕ → Command
-commandOf l = cond (leb (length l) 8192) (judged (placeOf (wordAt l 0) firstWords) l) Bad
+unfoldable pub tableLine : List ℕ → Line
+tableLine l = cond (leb (length l) 8192) (judged (placeOf (wordAt l 0) firstWords) l) (Run Bad)
+
+-- any line; "`lamps` alone is `lamps chip`"
+unfoldable pub lineOf : List ℕ → Line
+lineOf l = cond (isSilent l) (Aside Silent) (cond (sameText l (codes "lamps")) (Aside (Lamps Chip)) (tableLine l))

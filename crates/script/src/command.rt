@@ -1,4 +1,4 @@
-// A line as a command.
+// A line as a command, or as an aside.
 use calls::Request;
 
 // The bytes that are lent to a call.
@@ -24,6 +24,20 @@ pub enum Entry {
     Pins,
 }
 
+// A line that makes no call and changes no record and no chip.
+pub enum Aside {
+    // a comment, or an empty line
+    Silent,
+    // on or off
+    Echo(bool),
+    // a picture of the lamps
+    Lamps(Part),
+    // the byte string that is this word of the line
+    FaultMap(usize),
+    Diff,
+    List,
+}
+
 // A call of a panel, with the bytes that are lent to it, or a line of the script's own.
 pub enum Command {
     Bad,
@@ -42,4 +56,10 @@ pub enum Command {
     Poke(Part, usize, usize),
     Header(Entry, usize),
     Check,
+}
+
+// What a line of a script is. A line that is neither is a bad command.
+pub enum Line {
+    Run(Command),
+    Aside(Aside),
 }

@@ -10,11 +10,15 @@ mod table;
 mod words;
 
 pub use bytes::decode;
+pub use command::Aside;
 pub use command::Command;
 pub use command::Entry;
 pub use command::Lent;
+pub use command::Line;
 pub use command::Part;
 pub use lines::LONGEST;
+pub use lines::is_silent;
 pub use lines::read;
+pub use lines::trimmed;
 pub use words::line_length;
 pub use words::word;

@@ -3,11 +3,13 @@
 ghost use mathlib.Core.Path.{_≡_};
 ghost use Prim.Native.Nat.{_+_};
 ghost use Rattle.script.specs.Table.{columnOf};
-ghost use Rattle.script.specs.Lines.{firstWords, otherKinds, namedOf, argumentOf, valueAt, threeOf, argumentsOf, partAt, entryAt, callAt, commandOf};
+ghost use Rattle.script.specs.Lines.{firstWords, otherKinds, namedOf, argumentOf, valueAt, threeOf, argumentsOf, partAt, entryAt, callAt, withoutCr, isSilent, lineOf};
 use crate::bytes::is_bytes;
+use crate::command::Aside;
 use crate::command::Command;
 use crate::command::Entry;
 use crate::command::Lent;
+use crate::command::Line;
 use crate::command::Part;
 use crate::numbers;
 use crate::numbers::Number;
@@ -37,10 +39,12 @@ const BYTES: u8 = b's';
 const PART: u8 = b'p';
 // `member`, `bus` or `pins`
 const ENTRY: u8 = b'e';
+// `on` or `off`
+const ON_OFF: u8 = b'o';
 
 const LARGEST: usize = 4294967295;
 
-const ROWS: usize = 19;
+const ROWS: usize = 24;
 
 // The first word of each line, and the kinds of its other words. The settings that are lent nothing stand first: row n is arm n of `call`,
 // and row 4 + n arm n of `other`.
@@ -63,68 +67,78 @@ const LINES: [u8; 16 * ROWS] = *b"\
     chip            \
     poke pab        \
     header en       \
-    check           ";
+    check           \
+    lamps p         \
+    diff            \
+    faultmap s      \
+    echo o          \
+    list            ";
 
-// The command of a line, by its row and what its other words say.
-fn call(row: usize, first: usize, second: usize, third: usize) -> Command
+// What a line is, by its row and what its other words say.
+fn call(row: usize, first: usize, second: usize, third: usize) -> Line
     ensures { λ r. ⌜ r ≡ callAt row first second third ⌝ }
 {
     match row {
-        0 => Command::Call(
+        0 => Line::Run(Command::Call(
             Request::Set(Setting::Register {
                 address: first,
                 value: second,
             }),
             Lent::Nothing,
-        ),
-        1 => Command::Call(
+        )),
+        1 => Line::Run(Command::Call(
             Request::Set(Setting::Lamp {
                 line: first,
                 sink: second,
                 level: third,
             }),
             Lent::Nothing,
-        ),
-        2 => Command::Call(
+        )),
+        2 => Line::Run(Command::Call(
             Request::Set(Setting::Group {
                 line: first,
                 sink: second,
                 group: third,
             }),
             Lent::Nothing,
-        ),
-        3 => Command::Call(
+        )),
+        3 => Line::Run(Command::Call(
             Request::Set(Setting::Switch {
                 line: first,
                 sink: second,
                 state: third,
             }),
             Lent::Nothing,
-        ),
+        )),
         _ => other(row - 4, first, second, third),
     }
 }
 
-fn other(place: usize, first: usize, second: usize, third: usize) -> Command
+fn other(place: usize, first: usize, second: usize, third: usize) -> Line
     ensures { λ r. ⌜ r ≡ callAt (4 + place) first second third ⌝ }
 {
     match place {
-        0 => Command::Open(first, second, third),
-        1 => Command::Call(Request::Set(Setting::Scene), Lent::Word(1)),
-        2 => Command::Call(Request::Update, Lent::Room(first)),
-        3 => Command::Call(Request::Reset, Lent::Room(first)),
-        4 => Command::Call(Request::PowerLost, Lent::Nothing),
-        5 => Command::ClearOpens(first),
-        6 => Command::ClearShorts(first),
-        7 => Command::Feed(1),
-        8 => Command::Faults(first, 2, third),
-        9 => Command::Show(Part::Settings),
-        10 => Command::Show(Part::Image),
-        11 => Command::Show(Part::Chip),
-        12 => Command::Poke(part(first), second, third),
-        13 => Command::Header(entry(first), second),
-        14 => Command::Check,
-        _ => Command::Bad,
+        0 => Line::Run(Command::Open(first, second, third)),
+        1 => Line::Run(Command::Call(Request::Set(Setting::Scene), Lent::Word(1))),
+        2 => Line::Run(Command::Call(Request::Update, Lent::Room(first))),
+        3 => Line::Run(Command::Call(Request::Reset, Lent::Room(first))),
+        4 => Line::Run(Command::Call(Request::PowerLost, Lent::Nothing)),
+        5 => Line::Run(Command::ClearOpens(first)),
+        6 => Line::Run(Command::ClearShorts(first)),
+        7 => Line::Run(Command::Feed(1)),
+        8 => Line::Run(Command::Faults(first, 2, third)),
+        9 => Line::Run(Command::Show(Part::Settings)),
+        10 => Line::Run(Command::Show(Part::Image)),
+        11 => Line::Run(Command::Show(Part::Chip)),
+        12 => Line::Run(Command::Poke(part(first), second, third)),
+        13 => Line::Run(Command::Header(entry(first), second)),
+        14 => Line::Run(Command::Check),
+        15 => Line::Aside(Aside::Lamps(part(first))),
+        16 => Line::Aside(Aside::Diff),
+        17 => Line::Aside(Aside::FaultMap(1)),
+        18 => Line::Aside(Aside::Echo(first == 0)),
+        19 => Line::Aside(Aside::List),
+        _ => Line::Run(Command::Bad),
     }
 }
 
@@ -178,6 +192,7 @@ fn argument(kind: u8, word: &[u8]) -> Number
         }
         PART => named(word, b"settings        image           chip            "),
         ENTRY => named(word, b"member          bus             pins            "),
+        ON_OFF => named(word, b"on              off             "),
         _ => Number::Bad,
     }
 }
@@ -232,18 +247,48 @@ fn line_table() -> [u8; 16 * ROWS]
     LINES
 }
 
-// The command of a line.
-pub fn read(line: &[u8]) -> Command
-    ensures { λ r. ⌜ r ≡ commandOf (now (line .entry)) ⌝ }
+// A line without the CR at its end.
+pub fn trimmed(line: &[u8]) -> &[u8]
+    ensures { λ r. ⌜ now r ≡ withoutCr (now (line .entry)) ⌝ }
 {
+    let n = line.len();
+    if n == 0 {
+        return line;
+    }
+    if line[n - 1] == b'\r' {
+        return &line[..n - 1];
+    }
+    line
+}
+
+// Whether a line is a comment, or empty.
+pub fn is_silent(line: &[u8]) -> bool
+    ensures { λ r. ⌜ r ≡ isSilent (now (line .entry)) ⌝ }
+{
+    if line.len() == 0 {
+        return true;
+    }
+    line[0] == b'#'
+}
+
+// What a line is.
+pub fn read(line: &[u8]) -> Line
+    ensures { λ r. ⌜ r ≡ lineOf (now (line .entry)) ⌝ }
+{
+    if is_silent(line) {
+        return Line::Aside(Aside::Silent);
+    }
+    if words::same(line, b"lamps") {
+        return Line::Aside(Aside::Lamps(Part::Chip));
+    }
     if LONGEST < line.len() {
-        return Command::Bad;
+        return Line::Run(Command::Bad);
     }
     let lines = line_table();
     let row = table::find(words::word(line, 0), &lines);
     let kinds = table::cell(&lines, row, 1);
     let Three::Values(first, second, third) = arguments(line, kinds) else {
-        return Command::Bad;
+        return Line::Run(Command::Bad);
     };
     call(row, first, second, third)
 }

@@ -26,9 +26,11 @@ use Rattle.history.specs.declared.Ledger.{Ledger}
 use Rattle.history.specs.Step.{Step, leaving, stepOf}
 use Rattle.history.specs.Ledger.{toldOf, openedLedger, enteredOf}
 use Rattle.script.specs.declared.command.Command.{Command}
+use Rattle.script.specs.declared.command.Line.the-variants.{Run}
 use Rattle.script.specs.declared.command.Lent as lents
+use Rattle.script.specs.Lines.{lineOf}
+use Rattle.script.specs.LineLaws.{CommandFits, Fits, fits}
 use Rattle.script.specs.declared.command.Lent.the-variants.{Room}
-use Rattle.script.specs.Lines.{commandOf}
 use Rattle.text.specs.Text.{Puts}
 use Rattle.text.specs.TextLaws.{puts-as}
 use Rattle.replies.specs.Replies.{replyLine}
@@ -36,9 +38,7 @@ use Rattle.replies.specs.declared.Reply.{Reply}
 use Rattle.replies.specs.declared.Reply.the-variants.{Bad, Numbers, Lent, Bytes, Same, Differs}
 use Rattle.session.specs.declared.Session.{Session}
 use Rattle.session.specs.declared.outcomes.Outcome.{Outcome}
-use Rattle.session.specs.Run.{Effect, Does, Plain, Words, showing, answered, numbered, openedSession, openEffect, withWorld, stepEffect, told, callEffect, feedEffect, faultsEffect, shownBytes, effectOf, runOf}
-use Rattle.session.specs.Play.{freshBuffer, sessionAfter, printed, longestLine}
-use Rattle.session.specs.PlayLaws.{printed-most}
+use Rattle.session.specs.Run.{Effect, Does, Plain, Words, showing, answered, numbered, openedSession, openEffect, withWorld, stepEffect, told, callEffect, feedEffect, faultsEffect, shownBytes, effectOf}
 use Rattle.session.proofs.Buffers.{whole}
 
 pub plain-words : (r : Reply) → Plain r → Words r
@@ -113,20 +113,12 @@ shown-does old bytes new n s h o k p =
     let w = whole old bytes new n (omega arith) p in
     record { is = rw (w .1) refl; within = omega (arith, w .0); words = omega arith }
 
--- ---- a line: b is the buffer before it, e after it
+-- ---- a command: b is the buffer before it, e after it
 
-pub ran : (s : Session) (l b e : List ℕ) (c d : Command) (r : Outcome) → c ≡ commandOf l → c ≡ d → Does r e (effectOf s d l b) → Does r e (runOf s l b)
-unfolding runOf
-ran s l b e c d r ec ed does = rw (← ec, ed) does
+-- what the command of a line asks for is there
+pub fitting : (l : List ℕ) (c d : Command) → Run c ≡ lineOf l → c ≡ d → CommandFits l d
+unfolding Fits
+fitting l c d e is = subst (CommandFits l) is (fits l (Run c) e)
 
--- the buffer is fresh before it
-pub played : (s : Session) (l e : List ℕ) (r : Outcome) (old new : List ℕ) (at n : ℕ) → length e ≡ 4096 → Does r e (runOf s l freshBuffer) →
-    Puts old at (replyLine (r .reply) (take (r .shown) e)) new n →
-    (r .session ≡ sessionAfter s l) × (Puts old at (printed s l) new n × (length (printed s l) ≤ longestLine))
-unfolding sessionAfter printed
-played s l e r old new at n h d p =
-    let line : replyLine (r .reply) (take (r .shown) e) ≡ printed s l = ap (λ (x : Effect). replyLine (x .reply) (x .shown)) (d .is) in
-    let shown : take (r .shown) e ≡ runOf s l freshBuffer .shown = ap (λ (x : Effect). x .shown) (d .is) in
-    let most : length (runOf s l freshBuffer .shown) ≤ 4096 = omega (arith, d .within, length-take (r .shown) e, ap length shown) in
-    let words : Words (runOf s l freshBuffer .reply) = subst Words (ap (λ (x : Effect). x .reply) (d .is)) (d .words) in
-    (ap (λ (x : Effect). x .session) (d .is), (puts-as old at _ _ new n line p, printed-most s l most words))
+pub ran : (s : Session) (l b e : List ℕ) (c d : Command) (r : Outcome) → c ≡ d → Does r e (effectOf s d l b) → Does r e (effectOf s c l b)
+ran s l b e c d r ed does = rw ed does

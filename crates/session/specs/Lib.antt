@@ -1,4 +1,3 @@
 pub mod Run
-pub mod Play
-pub mod PlayLaws
+pub mod LengthLaws
 pub mod CheckLaws

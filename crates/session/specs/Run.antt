@@ -32,7 +32,6 @@ use Rattle.script.specs.declared.command.Entry.{Entry}
 use Rattle.script.specs.declared.command.Entry.the-variants.{Member, Bus, Pins}
 use Rattle.script.specs.Words.{wordAt}
 use Rattle.script.specs.Bytes.{bytesOf}
-use Rattle.script.specs.Lines.{commandOf}
 use Rattle.replies.specs.declared.Reply.{Reply}
 use Rattle.replies.specs.declared.Reply.the-variants.{Bad, Numbers, Lent, Bytes, Same, Differs}
 use Rattle.session.specs.declared.Session.{Session}
@@ -206,7 +205,3 @@ effectOf s (commands.Show p) l b = shownBytes s (partBytes (s .world) p)
 effectOf s (commands.Poke p a v) l b = behindBack s (poked (s .world) p a v)
 effectOf s (commands.Header e v) l b = behindBack s (withEntry (s .world) e v)
 effectOf s commands.Check l b = alone (compared s) s
-
--- "Words are judged before the call": the line's command, run on the session
-unfoldable pub runOf : Session → List ℕ → List ℕ → Effect
-runOf s l b = effectOf s (commandOf l) l b

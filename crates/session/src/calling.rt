@@ -18,7 +18,7 @@ use history::Stepped;
 use script::Lent;
 
 // The bytes of a word of the line, at the front of a buffer. It answers how many.
-fn decode(line: &[u8], word: usize, buffer: &mut [u8]) -> usize
+pub fn decode(line: &[u8], word: usize, buffer: &mut [u8]) -> usize
     requires { ⌜ (length (now line) ≤ 8192) × (length (now buffer) ≡ 4096) ⌝ }
     ensures { λ r. ⌜ (r ≤ 4096) × (take r (now (buffer .exit)) ≡ bytesOf (wordAt (now (line .entry)) word)) ⌝ }
 {

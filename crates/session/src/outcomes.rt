@@ -10,10 +10,10 @@ use replies::Reply;
 use script::Lent;
 
 // The reply, how many bytes of the buffer it shows, and the session after the line.
-pub(crate) struct Outcome {
-    pub(crate) reply: Reply,
-    pub(crate) shown: usize,
-    pub(crate) session: Session,
+pub struct Outcome {
+    pub reply: Reply,
+    pub shown: usize,
+    pub session: Session,
 }
 
 // Of a line that prints a word.

@@ -3,20 +3,20 @@
 use lib.ListN.{length}
 use mathlib.Core.Path.{_≡_}
 use Prim.Native.Nat.{_≤_, _+_}
-use Rattle.session.specs.Play.{longestLine}
+use Rattle.player.specs.Play.{longestLine}
 use borrow.Author.Needs.{needs}
 use Rattle.replay.proofs.play_all.Statement.{statement}
 use Rattle.replay.proofs.play_all.Tie as tie
 
 abbrev Inv-loop : tie.InvT-loop
-Inv-loop line₀ text₀ player₀ turns₀ line text player turns =
-    (length line ≡ length line₀) × (length text ≡ length text₀) × (player .length ≤ length line) × (player .output .at + longestLine ≤ length text)
+Inv-loop line₀ text₀ player₀ turns₀ line text reading turns =
+    (length line ≡ length line₀) × (length text ≡ length text₀) × (reading .length ≤ length line) × (reading .output .at + longestLine ≤ length text)
 
 abbrev μ-loop : tie.MeasureT-loop
-μ-loop line₀ text₀ player₀ turns₀ line text player turns = turns
+μ-loop line₀ text₀ player₀ turns₀ line text reading turns = turns
 
-new-player-requires : tie.Need-new-player-requires Inv-loop μ-loop
-new-player-requires c κs = search needs
+new-reading-requires : tie.Need-new-reading-requires Inv-loop μ-loop
+new-reading-requires c κs = search needs
 
 loop-holds : tie.Need-loop-holds Inv-loop μ-loop
 loop-holds c = search needs
@@ -57,7 +57,7 @@ play-all-spec =
     (tie.spec
     Inv-loop
     μ-loop
-    new-player-requires
+    new-reading-requires
     loop-holds
     play-some-requires
     sub-turns

@@ -2,19 +2,19 @@
 -- Assumes nothing.
 use native.Mathlib.Omega.{arith}
 use lib.ListN.{length}
-use mathlib.Core.Path.{_≡_}
+use mathlib.Core.Path.{_≡_, _∙_}
 use Prim.Native.Nat.{_≤_, _+_, _-_}
-use Rattle.session.specs.Play.{longestLine}
+use Rattle.player.specs.Play.{longestLine}
 use borrow.Author.Needs.{needs}
 use Rattle.replay.proofs.play_block.Statement.{statement}
 use Rattle.replay.proofs.play_block.Tie as tie
 
 abbrev Inv-loop : tie.InvT-loop
-Inv-loop player₀ block line₀ text₀ from₀ player line text from =
-    (length line ≡ length line₀) × (length text ≡ length text₀) × (player .length ≤ length line) × (player .output .at + longestLine ≤ length text)
+Inv-loop player₀ block line₀ text₀ from₀ reading line text from =
+    (length line ≡ length line₀) × (length text ≡ length text₀) × (reading .length ≤ length line) × (reading .output .at + longestLine ≤ length text)
 
 abbrev μ-loop : tie.MeasureT-loop
-μ-loop player₀ block line₀ text₀ from₀ player line text from = length block - from
+μ-loop player₀ block line₀ text₀ from₀ reading line text from = length block - from
 
 loop-holds : tie.Need-loop-holds Inv-loop μ-loop
 loop-holds c = search needs
@@ -47,7 +47,11 @@ loop-less : tie.Need-loop-less Inv-loop μ-loop
 loop-less c = search needs
 
 loop-again : tie.Need-loop-again Inv-loop μ-loop
-loop-again c = search needs
+loop-again c =
+    let ended = c .before .before .line-ended in
+    let put = c .before .before .before .before .before .before .before in
+    let inv = put .before .before .before .before .before .before .before .loop .inv in
+    (put .lengthened .kept .0 ∙ inv .0, ended .kept .1 .1 .1 .0 ∙ inv .1, ended .ensures .1 .0, ended .ensures .1 .1)
 
 same-length : tie.Need-same-length Inv-loop μ-loop
 same-length c = search needs

@@ -4,7 +4,7 @@ use mathlib.Core.Path.{refl, sym, _∙_}
 use borrow.Author.Tests.{ne-eqb}
 use Rattle.script.specs.Words.{codes, lengthTo, firstWord, behind, wordAt}
 use Rattle.script.specs.Table.{rowAt, cellAt, columnFrom, columnOf}
-use Rattle.script.specs.Lines.{decimal, hex, byte, small, address, room, bytes, part, entry, parts, entries, argumentOf}
+use Rattle.script.specs.Lines.{decimal, hex, byte, small, address, room, bytes, part, entry, onOff, parts, entries, switches, argumentOf}
 use borrow.Author.Needs.{needs}
 use Rattle.script.proofs.lines.argument.Statement.{statement}
 use Rattle.script.proofs.lines.argument.Tie as tie
@@ -41,6 +41,12 @@ slice-aggregate-named-2 c = search needs
 
 named-requires-2 : tie.Need-named-requires-2
 named-requires-2 c κs = search needs
+
+slice-aggregate-named-3 : tie.Need-slice-aggregate-named-3
+slice-aggregate-named-3 c = search needs
+
+named-requires-3 : tie.Need-named-requires-3
+named-requires-3 c κs = search needs
 
 returns : tie.Need-returns
 unfolding argumentOf
@@ -83,19 +89,24 @@ unfolding argumentOf entries codes columnOf columnFrom cellAt rowAt wordAt first
 returns-10 c = rw (c .before .before .match .keys9) (c .named2 .ensures)
 
 returns-11 : tie.Need-returns-11
+unfolding argumentOf switches codes columnOf columnFrom cellAt rowAt wordAt firstWord behind lengthTo
+returns-11 c = rw (c .before .before .match .keys10) (c .named3 .ensures)
+
+returns-12 : tie.Need-returns-12
 unfolding argumentOf
-returns-11 c =
+returns-12 c =
     let others = c .match .rest in
     simp (
-      ne-eqb _ decimal (others .0 .0 .0 .0 .0 .0 .0 .0 .1),
-      ne-eqb _ hex (others .0 .0 .0 .0 .0 .0 .0 .1),
-      ne-eqb _ byte (others .0 .0 .0 .0 .0 .0 .1),
-      ne-eqb _ small (others .0 .0 .0 .0 .0 .1),
-      ne-eqb _ address (others .0 .0 .0 .0 .1),
-      ne-eqb _ room (others .0 .0 .0 .1),
-      ne-eqb _ bytes (others .0 .0 .1),
-      ne-eqb _ part (others .0 .1),
-      ne-eqb _ entry (others .1),
+      ne-eqb _ decimal (others .0 .0 .0 .0 .0 .0 .0 .0 .0 .1),
+      ne-eqb _ hex (others .0 .0 .0 .0 .0 .0 .0 .0 .1),
+      ne-eqb _ byte (others .0 .0 .0 .0 .0 .0 .0 .1),
+      ne-eqb _ small (others .0 .0 .0 .0 .0 .0 .1),
+      ne-eqb _ address (others .0 .0 .0 .0 .0 .1),
+      ne-eqb _ room (others .0 .0 .0 .0 .1),
+      ne-eqb _ bytes (others .0 .0 .0 .1),
+      ne-eqb _ part (others .0 .0 .1),
+      ne-eqb _ entry (others .0 .1),
+      ne-eqb _ onOff (others .1),
     )
 
 pub argument-spec : {M : Type 1} → statement M
@@ -113,6 +124,8 @@ argument-spec =
     named-requires
     slice-aggregate-named-2
     named-requires-2
+    slice-aggregate-named-3
+    named-requires-3
     returns
     returns-2
     returns-3
@@ -123,4 +136,5 @@ argument-spec =
     returns-8
     returns-9
     returns-10
-    returns-11)
+    returns-11
+    returns-12)

@@ -14,6 +14,9 @@ part-requires c κs = search needs
 entry-requires : tie.Need-entry-requires
 entry-requires c κs = search needs
 
+part-requires-2 : tie.Need-part-requires-2
+part-requires-2 c κs = search needs
+
 returns : tie.Need-returns
 unfolding callAt lineAt lines
 returns c = rw (c .match .keys1) refl
@@ -75,8 +78,28 @@ unfolding callAt lineAt lines
 returns-15 c = rw (c .match .keys15) refl
 
 returns-16 : tie.Need-returns-16
+unfolding callAt lineAt lines
+returns-16 c = rw (c .before .match .keys16, c .part2 .ensures) refl
+
+returns-17 : tie.Need-returns-17
+unfolding callAt lineAt lines
+returns-17 c = rw (c .match .keys17) refl
+
+returns-18 : tie.Need-returns-18
+unfolding callAt lineAt lines
+returns-18 c = rw (c .match .keys18) refl
+
+returns-19 : tie.Need-returns-19
+unfolding callAt lineAt lines
+returns-19 c = rw (c .match .keys19) refl
+
+returns-20 : tie.Need-returns-20
+unfolding callAt lineAt lines
+returns-20 c = rw (c .match .keys20) refl
+
+returns-21 : tie.Need-returns-21
 unfolding lines
-returns-16 c = let behind = others-above _ 15 (c .match .rest) in no-call _ _ _ _ (omega (arith, behind))
+returns-21 c = let behind = others-above _ 20 (c .match .rest) in no-call _ _ _ _ (omega (arith, behind))
 
 pub other-spec : {M : Type 1} → statement M
 other-spec =
@@ -84,6 +107,7 @@ other-spec =
     (tie.spec
     part-requires
     entry-requires
+    part-requires-2
     returns
     returns-2
     returns-3
@@ -99,4 +123,9 @@ other-spec =
     returns-13
     returns-14
     returns-15
-    returns-16)
+    returns-16
+    returns-17
+    returns-18
+    returns-19
+    returns-20
+    returns-21)

@@ -1,14 +1,14 @@
--- Laws of Play.antt: no line prints more than 8,203 bytes, since an answer with a buffer has at most `0 n t` with three digits for n and for t,
+-- What a line replies has at most 8,203 bytes, since an answer with a buffer has at most `0 n t` with three digits for n and for t,
 -- a buffer at most 8,192 digits, and between and behind them stand a space and LF. An answer without a buffer has at most five numbers
 -- of 20 digits, whatever the call.
 -- Assumes nothing.
-use mathlib.Core.Path.{_≡_, refl}
+use mathlib.Core.Path.{_≡_, refl, ap, subst}
 use mathlib.Core.Bool.{Bool, true, false, cond}
 use mathlib.Core.List.{List, [], _∷_, _++_}
 use Prim.Native.Nat.{ℕ, zero, suc, _+_, _≤_, _<_}
 use native.Mathlib.Omega.{arith}
 use lib.Dec.{leb}
-use lib.ListN.{length, getD, take, length-append}
+use lib.ListN.{length, getD, take, length-append, length-take}
 use Rattle.map.specs.declared.refusals.Numbers as numbers
 use Rattle.map.specs.declared.refusals.Refusal.the-variants.{BufferShort, Unsound}
 use Rattle.map.specs.Refusals.{refusalNumber, numbersIn, numbersOf}
@@ -33,15 +33,16 @@ use Rattle.script.specs.declared.command.Lent as lents
 use Rattle.script.specs.declared.command.Lent.the-variants.{Nothing, Word, Room}
 use Rattle.script.specs.Words.{wordAt}
 use Rattle.script.specs.Bytes.{bytesOf}
-use Rattle.script.specs.Lines.{commandOf}
-use Rattle.script.specs.LineLaws.{BufferFits, Fits, fits}
+use Rattle.script.specs.declared.command.Line.the-variants.{Run}
+use Rattle.script.specs.Lines.{lineOf}
+use Rattle.script.specs.LineLaws.{BufferFits, CommandFits, Fits, fits}
 use Rattle.replies.specs.declared.Reply.{Reply}
 use Rattle.replies.specs.declared.Reply.the-variants.{Bad, Numbers, Lent, Bytes, Same, Differs}
 use Rattle.replies.specs.Replies.{numbersText, lentText, differsWord, replyText, replyLine}
 use Rattle.replies.specs.ReplyLaws.{numbers-most, numbers-within, first-within}
 use Rattle.session.specs.declared.Session.{Session}
-use Rattle.session.specs.Run.{Plain, Words, alone, answered, numbered, openEffect, stepEffect, callEffect, feedEffect, faultsEffect, shownBytes, behindBack, compared, lentOf, effectOf, runOf}
-use Rattle.session.specs.Play.{freshBuffer, longestLine, printed}
+use Rattle.session.specs.declared.outcomes.Outcome.{Outcome}
+use Rattle.session.specs.Run.{Effect, Does, Plain, Words, alone, answered, numbered, openEffect, stepEffect, callEffect, feedEffect, faultsEffect, shownBytes, behindBack, compared, lentOf, showing, effectOf}
 use Rattle.session.specs.CheckLaws.{compared-plain}
 
 -- ---- answers
@@ -155,8 +156,8 @@ call-short w Reset (Room n) bytes x s f = command-most w 0x0A9 0xFF _ bytes
 call-short w PowerLost (Room n) bytes x s f = absurd (omega arith)
 call-short w Update (Room n) bytes x s f = update-most w bytes
 
-line-short : (s : Session) (c : Command) (l b : List ℕ) → Fits l c → ShortLent (effectOf s c l b .reply)
-unfolding effectOf openEffect callEffect stepEffect feedEffect faultsEffect shownBytes behindBack numbered alone answered Fits ShortLent
+line-short : (s : Session) (c : Command) (l b : List ℕ) → CommandFits l c → ShortLent (effectOf s c l b .reply)
+unfolding effectOf openEffect callEffect stepEffect feedEffect faultsEffect shownBytes behindBack numbered alone answered CommandFits ShortLent
 line-short s commands.Bad l b f = omega arith
 line-short s (commands.Open m bus p) l b f = omega arith
 line-short s (commands.Call q lent) l b f = call-short (s .world) q lent (lentOf lent l b) _ _ (f .1)
@@ -169,11 +170,34 @@ line-short s (commands.Poke p a v) l b f = omega arith
 line-short s (commands.Header e v) l b f = omega arith
 line-short s commands.Check l b f = plain-short (compared s) (compared-plain s)
 
--- of a line that shows no more than the longest buffer, and whose numbers are words; `play` promises both of every line
-pub printed-most : (s : Session) (l : List ℕ) → length (runOf s l freshBuffer .shown) ≤ 4096 → Words (runOf s l freshBuffer .reply) →
-    length (printed s l) ≤ longestLine
-unfolding printed runOf replyLine
-printed-most s l h w =
-    let e = effectOf s (commandOf l) l freshBuffer in
-    let short = line-short s (commandOf l) l freshBuffer (fits l (commandOf l) (commandOf l) refl refl) in
-    omega (arith, length-append (replyText (e .reply) (e .shown)) (0x0A ∷ []), reply-most (e .reply) (e .shown) h w short)
+-- no call's line of reply has more bytes, its LF counted: `0 n t BUFFER` with three digits for n and for t, and 4,096 bytes
+abbrev pub longestReply : ℕ
+longestReply = 8203
+
+-- what a command replies that is a line's: it shows no more than the longest buffer, and its numbers are words; `run` promises both
+module _ (s : Session) (c : Command) (l b : List ℕ) (is : Run c ≡ lineOf l) where
+  abbrev effect : Effect
+  effect = effectOf s c l b
+
+  line-most : length (effect .shown) ≤ 4096 → Words (effect .reply) → length (replyLine (effect .reply) (effect .shown)) ≤ longestReply
+  unfolding replyLine Fits
+  line-most h w =
+      let short = line-short s c l b (fits l (Run c) is) in
+      omega (arith, length-append (replyText (effect .reply) (effect .shown)) (0x0A ∷ []), reply-most (effect .reply) (effect .shown) h w short)
+
+  -- what the program gives back of it, with the buffer as it then is
+  pub record Replies (r : Outcome) (e : List ℕ) : Type 0 where
+    pub line : replyLine (r .reply) (take (r .shown) e) ≡ replyLine (effect .reply) (effect .shown)
+    pub effect-is : showing r e ≡ effect
+    pub most : length (replyLine (effect .reply) (effect .shown)) ≤ longestReply
+
+  pub replies : (r : Outcome) (e : List ℕ) → length e ≡ 4096 → Does r e effect → Replies r e
+  replies r e h d =
+      let shown : take (r .shown) e ≡ effect .shown = ap (λ (x : Effect). x .shown) (d .is) in
+      record {
+        line = ap (λ (x : Effect). replyLine (x .reply) (x .shown)) (d .is);
+        effect-is = d .is;
+        most =
+            line-most (omega (arith, d .within, length-take (r .shown) e, ap length shown))
+            (subst Words (ap (λ (x : Effect). x .reply) (d .is)) (d .words));
+      }

@@ -1,7 +1,9 @@
 // A line of a script: its command, run on the session.
 ghost use mathlib.Core.Path.{_≡_};
 ghost use lib.ListN.{length};
-ghost use Rattle.session.specs.Run.{Does, runOf};
+ghost use Rattle.script.specs.declared.command.Line.the-variants.{Run};
+ghost use Rattle.script.specs.Lines.{lineOf};
+ghost use Rattle.session.specs.Run.{Does, effectOf};
 use crate::Session;
 use crate::behind;
 use crate::calling;
@@ -13,11 +15,12 @@ use crate::showing;
 use replies::Reply;
 use script::Command;
 
-pub(crate) fn run(session: Session, line: &[u8], buffer: &mut [u8]) -> Outcome
-    requires { ⌜ length (now buffer) ≡ 4096 ⌝ }
-    ensures { λ r. ⌜ Does r (now (buffer .exit)) (runOf session (now (line .entry)) (now (buffer .entry))) ⌝ }
+// The command is the line's.
+pub fn run(session: Session, command: Command, line: &[u8], buffer: &mut [u8]) -> Outcome
+    requires { ⌜ (Run command ≡ lineOf (now line)) × (length (now buffer) ≡ 4096) ⌝ }
+    ensures { λ r. ⌜ Does r (now (buffer .exit)) (effectOf session command (now (line .entry)) (now (buffer .entry))) ⌝ }
 {
-    match script::read(line) {
+    match command {
         Command::Bad => alone(Reply::Bad, session),
         Command::Open(member, bus, pins) => opening::open(session, member, bus, pins),
         Command::Call(request, lent) => calling::call(session, request, lent, line, buffer),

@@ -1,0 +1,194 @@
+-- The player's steps, over plain values.
+-- Assumes nothing.
+use mathlib.Core.Path.{_≡_, refl, sym, ap, _∙_}
+use mathlib.Core.Bool.{Bool, true, false, cond, not, _&&_}
+use mathlib.Core.List.{List, [], _∷_}
+use Prim.Native.Nat.{ℕ, _+_, _*_, _≤_, _<_}
+use native.Mathlib.Omega.{arith}
+use borrow.Author.Tests.{lt-ltb, le-ltb, le-leb, lt-leb, eq-eqb, ne-eqb}
+use lib.Dec.{ltb, leb, eqb}
+use lib.ListN.{length, take, replicate}
+use lib.Seq.{take-length, take-all}
+use Rattle.map.specs.declared.refusals.Numbers as numbers
+use Rattle.map.specs.declared.refusals.Refusal.{Refusal}
+use Rattle.map.specs.Refusals.{refusalNumber}
+use Rattle.faults.specs.declared.Answer as faults
+use Rattle.faults.specs.Faults.{faultsAnswer, faultsResult}
+use Rattle.text.specs.Text.{Puts, placed, placeAfter, decimalText}
+use Rattle.text.specs.TextLaws.{puts-then, puts-as}
+use Rattle.script.specs.declared.command.Command.{Command}
+use Rattle.script.specs.declared.command.Aside as asides
+use Rattle.script.specs.declared.command.Line.{Line}
+use Rattle.script.specs.declared.command.Line.the-variants.{Run, Aside}
+use Rattle.script.specs.Lines.{withoutCr, isSilent, lineOf}
+use Rattle.script.specs.LineLaws.{AsideFits, Fits, fits}
+use Rattle.replies.specs.Replies.{replyLine, echoLine}
+use Rattle.listing.specs.Show.{listText}
+use Rattle.pictures.specs.Pictures.{faultsText, differencesText}
+use Rattle.session.specs.declared.outcomes.Outcome.{Outcome}
+use Rattle.session.specs.declared.Session.{Session}
+use Rattle.session.specs.Run.{Effect, Does, effectOf}
+use Rattle.session.specs.LengthLaws.{longestReply, replies}
+use Rattle.player.specs.declared.Player.{Player}
+use Rattle.player.specs.Play.{withSession, countedFrom, counted, freshBuffer, effect, commandLine, sizeBy, keptSize, keeping, afterCommand, readingsAnswer, faultMapBy, faultMapText, differencesOf, lastListText, asideLine, afterAside, echoText, lineTextBy, lineText, afterBy, afterLine, playerAfter, echoedText, printed, longestLine}
+use Rattle.player.specs.PlayLaws.{aside-most, printed-most}
+
+-- ---- counting
+
+pub counted-more : (n : ℕ) → n < 4294967295 → n + 1 ≡ countedFrom n
+unfolding countedFrom
+counted-more n h = rw (lt-ltb n 4294967295 h) refl
+
+pub counted-no-more : (n : ℕ) → 4294967295 ≤ n → 4294967295 ≡ countedFrom n
+unfolding countedFrom
+counted-no-more n h = rw (le-ltb n 4294967295 h) refl
+
+pub counted-is : (p : Player) (n : ℕ) → n ≡ countedFrom (p .lines) →
+    record { session = p .session; echo = p .echo; lines = n; list = p .list; listed = p .listed; bus = p .bus } ≡ counted p
+unfolding counted
+counted-is p n e = rw e refl
+
+-- ---- the echo
+
+-- a line that is echoed whole
+pub echoed-whole : (l : List ℕ) → length l ≤ 8192 → (length l ≤ length l) × (take (length l) l ≡ take 8192 l)
+echoed-whole l h = (omega arith, take-length l ∙ sym (take-all 8192 l h))
+
+module _ (text : List ℕ) (at : ℕ) where
+  pub puts-none : Puts text at [] text at
+  unfolding placed placeAfter
+  puts-none = record { buffer = refl; place = refl }
+
+  module _ (on silent : Bool) (n : ℕ) (l : List ℕ) (es : silent ≡ isSilent l) where
+    pub echo-silent : silent ≡ true → Puts text at (echoText on n l) text at
+    unfolding echoText
+    echo-silent e = rw (sym es ∙ e) puts-none
+
+    pub echo-off : silent ≡ false → on ≡ false → Puts text at (echoText on n l) text at
+    unfolding echoText
+    echo-off e eo = rw (eo, sym es ∙ e) puts-none
+
+    pub echo-line : (part new : List ℕ) (r : ℕ) → silent ≡ false → on ≡ true → part ≡ take 8192 l → Puts text at (echoLine n part) new r →
+        Puts text at (echoText on n l) new r
+    unfolding echoText
+    echo-line part new r e eo ep p = rw (eo, sym es ∙ e, ← ep) p
+
+-- ---- the last list
+
+pub size-other : (n : numbers.Numbers) → (n .number ≡ 0 → ⊥) → 0 ≡ sizeBy n
+unfolding sizeBy
+size-other n h = rw (ne-eqb (n .number) 0 h) refl
+
+module _ (n : numbers.Numbers) (h : n .number ≡ 0) where
+  pub size-first : 65536 ≤ n .first → 0 ≡ sizeBy n
+  unfolding sizeBy
+  size-first l = rw (eq-eqb (n .number) 0 h, le-ltb (n .first) 65536 l) refl
+
+  pub size-second : n .first < 65536 → 65536 ≤ n .second → 0 ≡ sizeBy n
+  unfolding sizeBy
+  size-second k l = rw (eq-eqb (n .number) 0 h, lt-ltb (n .first) 65536 k, le-ltb (n .second) 65536 l) refl
+
+  pub size-is : n .first < 65536 → n .second < 65536 → 4 + 2 * n .first + n .second ≡ sizeBy n
+  unfolding sizeBy
+  size-is k l = rw (eq-eqb (n .number) 0 h, lt-ltb (n .first) 65536 k, lt-ltb (n .second) 65536 l) refl
+
+module _ (p : Player) (k : ℕ) (shown : List ℕ) where
+  pub keep-none : k ≡ 0 → p ≡ keeping p k shown
+  unfolding keeping
+  keep-none e = rw e refl
+
+  pub keep-short : length shown < k → p ≡ keeping p k shown
+  unfolding keeping
+  keep-short h = rw (lt-ltb 0 k (omega arith), lt-leb k (length shown) h) refl
+
+  pub keep-put : (new : List ℕ) (n : ℕ) → (k ≡ 0 → ⊥) → k ≤ length shown → Puts (p .list) 0 (take k shown) new n →
+      record { session = p .session; echo = p .echo; lines = p .lines; list = new; listed = n; bus = p .session .world .host .header .bus } ≡ keeping p k shown
+  unfolding keeping
+  keep-put new n z h put = rw (lt-ltb 0 k (omega arith), le-leb k (length shown) h, put .buffer, put .place) refl
+
+-- ---- a command: e is the buffer after it
+
+pub command-played : (p : Player) (c : Command) (l e : List ℕ) (r : Outcome) (old new : List ℕ) (at n k : ℕ) (q : Player) → Run c ≡ lineOf l →
+    length e ≡ 4096 → Does r e (effectOf (p .session) c l freshBuffer) → Puts old at (replyLine (r .reply) (take (r .shown) e)) new n →
+    k ≡ keptSize c (r .reply) → q ≡ keeping (withSession p (r .session)) k (take (r .shown) e) →
+    (q ≡ afterCommand p c l) × (Puts old at (commandLine p c l) new n × (length (commandLine p c l) ≤ longestReply))
+unfolding afterCommand commandLine effect
+command-played p c l e r old new at n k q is h d put ek eq =
+    let said = replies (p .session) c l freshBuffer is r e h d in (
+      eq ∙ ap (λ (j : ℕ). keeping (withSession p (r .session)) j (take (r .shown) e)) ek
+          ∙ ap (λ (x : Effect). keeping (withSession p (x .session)) (keptSize c (x .reply)) (x .shown)) (said .effect-is),
+      (puts-as old at _ _ new n (said .line) put, said .most),
+    )
+
+-- ---- asides
+
+pub differences-void : (s : Session) → s .valid ≡ false → 0x3F ∷ [] ≡ differencesOf s
+unfolding differencesOf
+differences-void s e = rw e refl
+
+pub differences-shown : (s : Session) → s .valid ≡ true → differencesText (s .ledger .member) (s .world .chip .registers) (s .ledger .bytes) ≡ differencesOf s
+unfolding differencesOf
+differences-shown s e = rw e refl
+
+module _ (bus : ℕ) (list : List ℕ) (k : ℕ) where
+  pub list-none : k ≡ 0 → 0x3F ∷ [] ≡ lastListText bus list k
+  unfolding lastListText
+  list-none e = rw e refl
+
+  pub list-long : 1174 < k → 0x3F ∷ [] ≡ lastListText bus list k
+  unfolding lastListText
+  list-long h = rw (lt-ltb 0 k (omega arith), lt-leb k 1174 h) refl
+
+  pub list-past : (k ≡ 0 → ⊥) → k ≤ 1174 → length list < k → 0x3F ∷ [] ≡ lastListText bus list k
+  unfolding lastListText
+  list-past z h l = rw (lt-ltb 0 k (omega arith), le-leb k 1174 h, lt-leb k (length list) l) refl
+
+  pub list-shown : (k ≡ 0 → ⊥) → k ≤ 1174 → k ≤ length list → listText bus (take k list) ≡ lastListText bus list k
+  unfolding lastListText
+  list-shown z h l = rw (lt-ltb 0 k (omega arith), le-leb k 1174 h, le-leb k (length list) l) refl
+
+-- Faults with room for 198 readings
+module _ (m : ℕ) (bytes given readings : List ℕ) (answer : faults.Answer) (eg : given ≡ bytes) (ea : answer ≡ faultsAnswer m given (replicate 198 0))
+    (er : readings ≡ faultsResult m given (replicate 198 0)) where
+  pub map-read : (o s : Bool) → answer ≡ faults.the-variants.Read o s → faultsText m readings ≡ faultMapText m bytes
+  unfolding faultMapText readingsAnswer faultMapBy
+  map-read o s e = rw (← eg, ← ea, ← er, e) refl
+
+  pub map-refused : (r : Refusal) → answer ≡ faults.the-variants.Refused r → decimalText (refusalNumber r) ≡ faultMapText m bytes
+  unfolding faultMapText readingsAnswer faultMapBy
+  map-refused r e = rw (← eg, ← ea, ← er, e) refl
+
+-- ---- a line
+
+pub run-line : (l : List ℕ) (x : Line) (c : Command) → x ≡ lineOf l → x ≡ Run c → Run c ≡ lineOf l
+run-line l x c e is = sym is ∙ e
+
+pub aside-fits : (l : List ℕ) (x : Line) (a : asides.Aside) → x ≡ lineOf l → x ≡ Aside a → AsideFits l a
+unfolding Fits
+aside-fits l x a e is = fits l (Aside a) (sym is ∙ e)
+
+module _ (p : Player) (l : List ℕ) (x : Line) (e : x ≡ lineOf l) (q : Player) (old new : List ℕ) (at n : ℕ) where
+  -- what `play_line` promises
+  abbrev pub PlaysLine : Type 0
+  PlaysLine = (q ≡ afterLine p l) × (Puts old at (lineText p l) new n × (length (lineText p l) ≤ longestReply))
+
+  pub run-played : (c : Command) → x ≡ Run c →
+      (q ≡ afterCommand p c l) × (Puts old at (commandLine p c l) new n × (length (commandLine p c l) ≤ longestReply)) → PlaysLine
+  unfolding afterLine lineText afterBy lineTextBy
+  run-played c is h = rw (sym e ∙ is) h
+
+  pub aside-played : (a : asides.Aside) → x ≡ Aside a → q ≡ afterAside p a → Puts old at (asideLine p a l) new n → PlaysLine
+  unfolding afterLine lineText afterBy lineTextBy
+  aside-played a is eq put = rw (sym e ∙ is) (eq, (put, aside-most p a l))
+
+pub played : (p q r : Player) (l w old mid new : List ℕ) (at next n : ℕ) → w ≡ withoutCr l → q ≡ counted p →
+    Puts old at (echoText (q .echo) (q .lines) w) mid next → PlaysLine q w (lineOf w) refl r mid new next n →
+    (r ≡ playerAfter p l) × (Puts old at (printed p l) new n × (length (printed p l) ≤ longestLine))
+unfolding playerAfter printed echoedText
+played p q r l w old mid new at next n ew eq put line = (
+  line .0 ∙ rw (ew, eq) refl,
+  (
+    puts-as old at _ _ new n (rw (ew, eq) refl) (puts-then old at _ mid next _ new n put (line .1 .0)),
+    printed-most p l (rw (ew, eq) at (line .1 .1)),
+  ),
+)

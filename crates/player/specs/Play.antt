@@ -1,0 +1,203 @@
+-- A line of a script, played: what it does to the player, and what it prints. p is a player, l a line, 0Ah is LF, 3Fh `?`.
+-- Assumes nothing.
+use mathlib.Core.Bool.{Bool, true, false, cond, not, _&&_}
+use mathlib.Core.List.{List, [], _∷_, _++_}
+use Prim.Native.Nat.{ℕ, _+_, _*_}
+use lib.Dec.{ltb, leb, eqb}
+use lib.ListN.{length, take, replicate}
+use Rattle.map.specs.declared.refusals.Numbers as numbers
+use Rattle.map.specs.Refusals.{refusalNumber}
+use Rattle.faults.specs.declared.Answer as faults
+use Rattle.faults.specs.Faults.{faultsAnswer, faultsResult}
+use Rattle.history.specs.declared.World.{World}
+use Rattle.text.specs.Text.{placed, placeAfter, decimalText}
+use Rattle.script.specs.declared.command.Command.{Command}
+use Rattle.script.specs.declared.command.Command.the-variants as commands
+use Rattle.script.specs.declared.command.Lent as lents
+use Rattle.script.specs.declared.command.Lent.the-variants.{Nothing, Word, Room}
+use Rattle.script.specs.declared.command.Part.{Part}
+use Rattle.script.specs.declared.command.Part.the-variants.{Settings, Image, Chip}
+use Rattle.script.specs.declared.command.Aside as asides
+use Rattle.script.specs.declared.command.Aside.the-variants.{Silent, Echo, Lamps, FaultMap, Diff, List as LastList}
+use Rattle.script.specs.declared.command.Line.{Line}
+use Rattle.script.specs.declared.command.Line.the-variants.{Run, Aside}
+use Rattle.script.specs.Words.{wordAt}
+use Rattle.script.specs.Bytes.{bytesOf}
+use Rattle.script.specs.Lines.{withoutCr, isSilent, lineOf}
+use Rattle.replies.specs.declared.Reply.{Reply}
+use Rattle.replies.specs.declared.Reply.the-variants.{Bad, Numbers, Lent, Bytes, Same, Differs}
+use Rattle.replies.specs.Replies.{replyLine, echoLine}
+use Rattle.listing.specs.Show.{listText}
+use Rattle.pictures.specs.Pictures.{lampsText, faultsText, differencesText}
+use Rattle.session.specs.declared.Session.{Session}
+use Rattle.session.specs.Run.{Effect, openedSession, effectOf}
+use Rattle.player.specs.declared.Player.{Player}
+
+-- ---- The player
+
+-- "Before the first accepted `open` the record and the chip are those of `open 0 0 0`."; no line yet, no echo, and no list
+unfoldable pub fresh : Player
+fresh = record { session = openedSession 0 0 0; echo = false; lines = 0; list = replicate 1174 0; listed = 0; bus = 0 }
+
+unfoldable pub withSession : Player → Session → Player
+withSession p s = record { session = s; echo = p .echo; lines = p .lines; list = p .list; listed = p .listed; bus = p .bus }
+
+-- "the line's number", counted from 1, up to 4,294,967,295
+unfoldable pub countedFrom : ℕ → ℕ
+countedFrom n = cond (ltb n 4294967295) (n + 1) 4294967295
+
+unfoldable pub counted : Player → Player
+counted p = record { session = p .session; echo = p .echo; lines = countedFrom (p .lines); list = p .list; listed = p .listed; bus = p .bus }
+
+-- ---- A command
+
+-- "A buffer of L bytes (L at most 4,096, else `?`) is lent filled with A5h": it is the first L bytes of this
+unfoldable pub freshBuffer : List ℕ
+freshBuffer = replicate 4096 0xA5
+
+-- what it does to the session
+unfoldable pub effect : Player → Command → List ℕ → Effect
+effect p c l = effectOf (p .session) c l freshBuffer
+
+-- the line that it prints: its reply, "and after the call ALL its L bytes are printed"
+unfoldable pub commandLine : Player → Command → List ℕ → List ℕ
+commandLine p c l = replyLine (effect p c l .reply) (effect p c l .shown)
+
+-- an Update, a Reset and the Clears are lent a buffer and write a list into it
+unfoldable pub isRoom : lents.Lent → Bool
+isRoom Nothing = false
+isRoom (Word k) = false
+isRoom (Room n) = true
+
+unfoldable pub writesList : Command → Bool
+writesList commands.Bad = false
+writesList (commands.Open m b p) = false
+writesList (commands.Call q lent) = isRoom lent
+writesList (commands.ClearOpens n) = true
+writesList (commands.ClearShorts n) = true
+writesList (commands.Feed k) = false
+writesList (commands.Faults m k n) = false
+writesList (commands.Show part) = false
+writesList (commands.Poke part a v) = false
+writesList (commands.Header e v) = false
+writesList commands.Check = false
+
+-- the list that an answer of 0, n and t tells of has 4 + 2n + t bytes; n and t have two bytes each
+unfoldable pub sizeBy : numbers.Numbers → ℕ
+sizeBy n = cond (eqb (n .number) 0 && (ltb (n .first) 65536 && ltb (n .second) 65536)) (4 + 2 * n .first + n .second) 0
+
+unfoldable pub listedSize : Reply → ℕ
+listedSize Bad = 0
+listedSize (Numbers n) = 0
+listedSize (Lent n) = sizeBy n
+listedSize Bytes = 0
+listedSize Same = 0
+listedSize (Differs a) = 0
+
+unfoldable pub keptSize : Command → Reply → ℕ
+keptSize c r = cond (writesList c) (listedSize r) 0
+
+-- "the last list that a call wrote": the first k bytes of what it shows, and "the record's own bus"
+unfoldable pub keeping : Player → ℕ → List ℕ → Player
+keeping p k shown =
+    cond (ltb 0 k && leb k (length shown))
+    (record {
+      session = p .session;
+      echo = p .echo;
+      lines = p .lines;
+      list = placed (p .list) 0 (take k shown);
+      listed = placeAfter (length (p .list)) 0 (take k shown);
+      bus = p .session .world .host .header .bus;
+    })
+    p
+
+unfoldable pub afterCommand : Player → Command → List ℕ → Player
+afterCommand p c l =
+    keeping (withSession p (effect p c l .session)) (keptSize c (effect p c l .reply)) (effect p c l .shown)
+
+-- ---- Asides
+
+-- "`lamps` draws the panel as the chip has it", "`lamps settings` the same of the settings"
+unfoldable pub lampsOf : World → Part → List ℕ
+lampsOf w Settings = lampsText (w .host .header .member) (w .host .settings)
+lampsOf w Image = lampsText (w .host .header .member) (w .host .image)
+lampsOf w Chip = lampsText (w .chip .member) (w .chip .registers)
+
+-- Faults of the member with these bytes, and room for 198 readings
+unfoldable pub readingsAnswer : ℕ → List ℕ → faults.Answer
+readingsAnswer m bytes = faultsAnswer m bytes (replicate 198 0)
+
+-- "`faultmap BYTES` draws the readings of Faults the same way", or prints the number of its refusal
+unfoldable pub faultMapBy : ℕ → faults.Answer → List ℕ → List ℕ
+faultMapBy m (faults.the-variants.Read o s) readings = faultsText m readings
+faultMapBy m (faults.the-variants.Refused r) readings = decimalText (refusalNumber r)
+
+unfoldable pub faultMapText : ℕ → List ℕ → List ℕ
+faultMapText m bytes = faultMapBy m (readingsAnswer m bytes) (faultsResult m bytes (replicate 198 0))
+
+-- "`diff` lists every writable register in which the chip and the ledger differ", and prints `?` where the ledger is void
+unfoldable pub differencesOf : Session → List ℕ
+differencesOf s = cond (s .valid) (differencesText (s .ledger .member) (s .world .chip .registers) (s .ledger .bytes)) (0x3F ∷ [])
+
+-- "`list` .. shows the last list that a call wrote in showlist's form, on one line with ` / ` between transactions", and `?` before the first
+unfoldable pub lastListText : ℕ → List ℕ → ℕ → List ℕ
+lastListText bus list k = cond (ltb 0 k && (leb k 1174 && leb k (length list))) (listText bus (take k list)) (0x3F ∷ [])
+
+-- what an aside prints: "do nothing and print nothing"; `0` for `echo`
+unfoldable pub asideLine : Player → asides.Aside → List ℕ → List ℕ
+asideLine p Silent l = []
+asideLine p (Echo on) l = 0x30 ∷ 0x0A ∷ []
+asideLine p (Lamps part) l = lampsOf (p .session .world) part ++ (0x0A ∷ [])
+asideLine p (FaultMap k) l = faultMapText (p .session .world .host .header .member) (bytesOf (wordAt l k)) ++ (0x0A ∷ [])
+asideLine p Diff l = differencesOf (p .session) ++ (0x0A ∷ [])
+asideLine p LastList l = lastListText (p .bus) (p .list) (p .listed) ++ (0x0A ∷ [])
+
+-- "`echo on` .., `echo off` ends that"
+unfoldable pub withEcho : Player → Bool → Player
+withEcho p on = record { session = p .session; echo = on; lines = p .lines; list = p .list; listed = p .listed; bus = p .bus }
+
+unfoldable pub afterAside : Player → asides.Aside → Player
+afterAside p Silent = p
+afterAside p (Echo on) = withEcho p on
+afterAside p (Lamps part) = p
+afterAside p (FaultMap k) = p
+afterAside p Diff = p
+afterAside p LastList = p
+
+-- ---- A line
+
+-- "`echo on` puts the line's number and the call before its answer": the first 8,192 bytes of the line; nothing of a comment or an empty line
+unfoldable pub echoText : Bool → ℕ → List ℕ → List ℕ
+echoText on n l = cond (not (isSilent l) && on) (echoLine n (take 8192 l)) []
+
+unfoldable pub lineTextBy : Player → Line → List ℕ → List ℕ
+lineTextBy p (Run c) l = commandLine p c l
+lineTextBy p (Aside x) l = asideLine p x l
+
+-- what a line prints that was counted
+unfoldable pub lineText : Player → List ℕ → List ℕ
+lineText p l = lineTextBy p (lineOf l) l
+
+unfoldable pub afterBy : Player → Line → List ℕ → Player
+afterBy p (Run c) l = afterCommand p c l
+afterBy p (Aside x) l = afterAside p x
+
+unfoldable pub afterLine : Player → List ℕ → Player
+afterLine p l = afterBy p (lineOf l) l
+
+-- the player after any line: it is counted, and "a CR right before the LF is dropped"
+unfoldable pub playerAfter : Player → List ℕ → Player
+playerAfter p l = afterLine (counted p) (withoutCr l)
+
+-- what a line prints that was counted: its echo, then its own
+unfoldable pub echoedText : Player → List ℕ → List ℕ
+echoedText p l = echoText (p .echo) (p .lines) l ++ lineText p l
+
+-- what any line prints
+unfoldable pub printed : Player → List ℕ → List ℕ
+printed p l = echoedText (counted p) (withoutCr l)
+
+-- no line prints more bytes, its LFs counted (PlayLaws): an echo of ten digits, a space, 8,192 bytes and LF; then `0 n t BUFFER` with three
+-- digits for n and for t, and 4,096 bytes
+abbrev pub longestLine : ℕ
+longestLine = 16407

@@ -1,0 +1,115 @@
+-- Laws of Play.antt: what an aside prints has no more bytes than a reply, and no line prints more than 16,407.
+-- Assumes nothing.
+use mathlib.Core.Path.{_≡_, refl}
+use mathlib.Core.Bool.{Bool, true, false, cond, not, _&&_}
+use mathlib.Core.List.{List, [], _∷_, _++_}
+use Prim.Native.Nat.{ℕ, _+_, _*_, _^_, _≤_, _<_}
+use native.Mathlib.Decide.{decLt}
+use native.Mathlib.Omega.{arith}
+use borrow.Author.Tests.{lt-ltb, le-ltb, leb-true}
+use lib.Dec.{ltb, leb}
+use lib.ListN.{length, take, length-append, length-take}
+use Rattle.map.specs.RefusalLaws.{refusal-small}
+use Rattle.faults.specs.declared.Answer as faults
+use Rattle.history.specs.declared.World.{World}
+use Rattle.text.specs.Text.{decimalText}
+use Rattle.text.specs.TextLaws.{decimal-length}
+use Rattle.script.specs.declared.command.Part.{Part}
+use Rattle.script.specs.declared.command.Part.the-variants.{Settings, Image, Chip}
+use Rattle.script.specs.declared.command.Aside as asides
+use Rattle.script.specs.declared.command.Aside.the-variants.{Silent, Echo, Lamps, FaultMap, Diff, List as LastList}
+use Rattle.script.specs.Words.{wordAt}
+use Rattle.script.specs.Bytes.{bytesOf}
+use Rattle.script.specs.Lines.{withoutCr, isSilent}
+use Rattle.replies.specs.Replies.{echoLine}
+use Rattle.listing.specs.Show.{listText}
+use Rattle.listing.specs.ShowLaws.{list-short}
+use Rattle.pictures.specs.Pictures.{lampsText, faultsText, differencesText}
+use Rattle.pictures.specs.PictureLaws.{lamps-most, faults-most, differences-most}
+use Rattle.session.specs.declared.Session.{Session}
+use Rattle.session.specs.LengthLaws.{longestReply}
+use Rattle.player.specs.declared.Player.{Player}
+use Rattle.player.specs.Play.{countedFrom, counted, lampsOf, faultMapBy, faultMapText, differencesOf, lastListText, asideLine, echoText, lineText, echoedText, printed, longestLine}
+
+-- ---- asides
+
+lamps-of : (w : World) (part : Part) → length (lampsOf w part) ≤ 208
+unfolding lampsOf
+lamps-of w Settings = lamps-most _ _
+lamps-of w Image = lamps-most _ _
+lamps-of w Chip = lamps-most _ _
+
+fault-map : (m : ℕ) (answer : faults.Answer) (readings : List ℕ) → length (faultMapBy m answer readings) ≤ 208
+unfolding faultMapBy
+fault-map m (faults.the-variants.Read o s) readings = faults-most m readings
+fault-map m (faults.the-variants.Refused r) readings = omega (arith, decimal-length 1 _ (refusal-small r))
+
+differences-of : (s : Session) → length (differencesOf s) ≤ 6939
+unfolding differencesOf
+differences-of s = go (s .valid)
+  where
+    text : List ℕ
+    text = differencesText (s .ledger .member) (s .world .chip .registers) (s .ledger .bytes)
+
+    go : (b : Bool) → length (cond b text (0x3F ∷ [])) ≤ 6939
+    go true = differences-most _ _ _
+    go false = omega arith
+
+-- a list of at most 1,174 bytes
+last-list : (bus : ℕ) (list : List ℕ) (k : ℕ) → length (lastListText bus list k) ≤ 3533
+unfolding lastListText
+last-list bus list k = go (ltb 0 k) (leb k 1174) (leb k (length list)) refl
+  where
+    go : (a b c : Bool) → leb k 1174 ≡ b → length (cond (a && (b && c)) (listText bus (take k list)) (0x3F ∷ [])) ≤ 3533
+    go true true true e = omega (arith, list-short bus (take k list), length-take k list, leb-true k 1174 e)
+    go true true false e = omega arith
+    go true false c e = omega arith
+    go false b c e = omega arith
+
+pub aside-most : (p : Player) (x : asides.Aside) (l : List ℕ) → length (asideLine p x l) ≤ longestReply
+unfolding asideLine faultMapText
+aside-most p Silent l = omega arith
+aside-most p (Echo on) l = omega arith
+aside-most p (Lamps part) l = omega (arith, length-append (lampsOf (p .session .world) part) (0x0A ∷ []), lamps-of (p .session .world) part)
+aside-most p (FaultMap k) l =
+    let m : ℕ = p .session .world .host .header .member in
+    let text : List ℕ = faultMapText m (bytesOf (wordAt l k)) in
+    let most : length text ≤ 208 = fault-map m _ _ in
+    omega (arith, length-append text (0x0A ∷ []), most)
+aside-most p Diff l = omega (arith, length-append (differencesOf (p .session)) (0x0A ∷ []), differences-of (p .session))
+aside-most p LastList l = omega (arith, length-append (lastListText (p .bus) (p .list) (p .listed)) (0x0A ∷ []), last-list (p .bus) (p .list) (p .listed))
+
+-- ---- any line
+
+counted-most : (n : ℕ) → countedFrom n < 10 ^ 10
+unfolding countedFrom
+counted-most n = go (decLt n 4294967295)
+  where
+    go : Dec (n < 4294967295) → cond (ltb n 4294967295) (n + 1) 4294967295 < 10 ^ 10
+    go (yes k) = rw (lt-ltb n 4294967295 k) (omega arith)
+    go (no k) = rw (le-ltb n 4294967295 (omega arith)) (omega arith)
+
+echo-most : (on : Bool) (n : ℕ) (l : List ℕ) → n < 10 ^ 10 → length (echoText on n l) ≤ 8204
+unfolding echoText echoLine
+echo-most on n l h = go (not (isSilent l) && on)
+  where
+    go : (b : Bool) → length (cond b (echoLine n (take 8192 l)) []) ≤ 8204
+    go true =
+        omega (
+          arith,
+          length-append (decimalText n) (0x20 ∷ (take 8192 l ++ (0x0A ∷ []))),
+          decimal-length 9 n h,
+          length-append (take 8192 l) (0x0A ∷ []),
+          length-take 8192 l,
+        )
+    go false = omega arith
+
+-- a line whose own text is no longer than a reply
+pub printed-most : (p : Player) (l : List ℕ) → length (lineText (counted p) (withoutCr l)) ≤ longestReply → length (printed p l) ≤ longestLine
+unfolding printed echoedText counted
+printed-most p l h =
+    omega (
+      arith,
+      length-append (echoText (p .echo) (countedFrom (p .lines)) (withoutCr l)) (lineText (counted p) (withoutCr l)),
+      echo-most (p .echo) (countedFrom (p .lines)) (withoutCr l) (counted-most (p .lines)),
+    )
