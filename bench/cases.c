@@ -199,6 +199,16 @@ static uint32_t call_feed(const struct interface *calls, struct situation *s)
     return calls->chip_feed(s->chip, sizeof s->chip, s->list, s->list_size);
 }
 
+/* Each transaction of the list is found, as for sending it. */
+static uint32_t call_walk(const struct interface *calls, struct situation *s)
+{
+    uint32_t index = 0;
+
+    while (calls->transaction(s->list, s->list_size, index, &s->n, &s->t) == 0)
+        index++;
+    return index == 0;
+}
+
 static uint32_t call_faults(const struct interface *calls, struct situation *s)
 {
     return calls->faults(s->member, s->faults, sizeof s->faults, s->result, sizeof s->result, &s->n, &s->t);
@@ -219,6 +229,8 @@ const struct bench_case cases[] = {
     {"Power lost", as_it_is, call_power_lost},
     {"Clear opens", as_it_is, call_clear_opens},
     {"Clear shorts", as_it_is, call_clear_shorts},
+    {"Transactions of a list of one lamp", list_one_lamp, call_walk},
+    {"Transactions of the list of the full update", list_all_registers, call_walk},
     {"Faults", fill_faults, call_faults},
     {"Chip at reset", as_it_is, call_chip_at_reset},
     {"Chip's power lost", as_it_is, call_chip_power_lost},
