@@ -15,9 +15,9 @@
  * will do. Nothing is allocated and nothing is kept between calls. The memory of two arguments of one call must not overlap, and no
  * pointer may be null, even with length 0.
  *
- * Threads: a call uses the memory that it is lent and its own stack, and nothing else. So calls may run at the same time, in interrupts
- * too, unless one of them changes memory that another one is lent: on one record one call at a time, on different records side by side.
- * Memory that is lent as const is only read. What differs is said at the call.
+ * Threads: a call uses the memory that it is lent and its own stack, and nothing else. The last line of its comment says which memory it
+ * changes, which it only reads, and that none of these pointers may be null. Calls may run at the same time, in interrupts too, unless one
+ * of them changes what another one is lent: on one record one call at a time, on different records side by side.
  *
  * Targets: x86-64 with the System V calling convention; the toolchain writes code for no other. A port needs a back end of Rattle for its
  * target and a size_t of 64 bits, which the promises take for granted. Byte order is no matter: numbers are taken apart byte by byte.
@@ -84,27 +84,34 @@ extern "C" {
 
 /* A new record: member 0 LP5860, 1 LP5861T, 2 LP5864, 3 LP5867, 4 LP5868T; bus 0 I2C with the chip's two address pins, 1 SPI with pins 0.
  * Settings and chip image start at the member's reset values: nothing lights before 000h is 01h. The pins are 2 x ADDR1 + ADDR0.
- * 14 (size), 1, 2, 3. */
+ * 14 (size), 1, 2, 3.
+ * Changes record, not null. */
 uint32_t lp586x_open(uint8_t *record, size_t record_size, uint32_t member, uint32_t bus, uint32_t pins);
 
-/* One whole register of the settings. 14, 4, 5 (a value above 255 too). */
+/* One whole register of the settings. 14, 4, 5 (a value above 255 too).
+ * Changes record, not null. */
 uint32_t lp586x_register(uint8_t *record, size_t record_size, uint32_t address, uint32_t value);
 
 /* The level of a dot: 8 bits at data mode 0 or 1 of the settings, else 16 bits. A new record has data mode 3, where 65,535 is full and 255
- * is dim, and where the chip shows levels at a pulse on its VSYNC pin; in data mode 0 it shows them at once. 14, 6, 7. */
+ * is dim, and where the chip shows levels at a pulse on its VSYNC pin; in data mode 0 it shows them at once. 14, 6, 7.
+ * Changes record, not null. */
 uint32_t lp586x_lamp(uint8_t *record, size_t record_size, uint32_t line, uint32_t sink, uint32_t level);
 
-/* The brightness group of a dot, 1 to 3, or 0 for none. 14, 6, 8. */
+/* The brightness group of a dot, 1 to 3, or 0 for none. 14, 6, 8.
+ * Changes record, not null. */
 uint32_t lp586x_group(uint8_t *record, size_t record_size, uint32_t line, uint32_t sink, uint32_t group);
 
-/* A dot on (1) or off (0). 14, 6, 8. */
+/* A dot on (1) or off (0). 14, 6, 8.
+ * Changes record, not null. */
 uint32_t lp586x_switch(uint8_t *record, size_t record_size, uint32_t line, uint32_t sink, uint32_t state);
 
 /* Many levels: a count n of two bytes, n dot numbers 18 x line + sink of one byte, n levels of two bytes, low byte first. All or nothing;
- * a dot twice takes the last level. 14, 9 (size under 2 or not 2 + 3n), 6 (any dot), 7 (any level). */
+ * a dot twice takes the last level. 14, 9 (size under 2 or not 2 + 3n), 6 (any dot), 7 (any level).
+ * Changes record, reads scene, neither null. */
 uint32_t lp586x_scene(uint8_t *record, size_t record_size, const uint8_t *scene, size_t scene_size);
 
-/* The chip has lost its power: it holds its reset values. The settings are kept, so that the next update sends them. 14. */
+/* The chip has lost its power: it holds its reset values. The settings are kept, so that the next update sends them. 14.
+ * Changes record, not null. */
 uint32_t lp586x_power_lost(uint8_t *record, size_t record_size);
 
 /* ---- Lists of bus writes
@@ -125,39 +132,46 @@ uint32_t lp586x_power_lost(uint8_t *record, size_t record_size);
  * lp586x_power_lost does not do: a register whose setting is its reset value would keep what it has. See examples/bus_failure.c. */
 
 /* The shortest list that brings the chip to the settings; t is at most 702. While the settings have the chip off (000h bit 0 clear), it
- * only turns the chip off, and other settings wait. 0 stores n and t; 10 stores the length needed. 14, 10 (buffer under 4 + 2n + t). */
+ * only turns the chip off, and other settings wait. 0 stores n and t; 10 stores the length needed. 14, 10 (buffer under 4 + 2n + t).
+ * Changes record, buffer, n, t and needed, none null. */
 uint32_t lp586x_update(uint8_t *record, size_t record_size, uint8_t *buffer, size_t buffer_size, uint32_t *n, uint32_t *t, uint32_t *needed);
 
 /* Every register of the chip to its reset value; the settings are kept, so that the next update sends them. 0 stores n and t.
- * Once its list was sent whole, the record is right again, whatever the chip had heard of lists before. 14, 10 (buffer under 9). */
+ * Once its list was sent whole, the record is right again, whatever the chip had heard of lists before. 14, 10 (buffer under 9).
+ * Changes record, buffer, n and t, none null. */
 uint32_t lp586x_reset(uint8_t *record, size_t record_size, uint8_t *buffer, size_t buffer_size, uint32_t *n, uint32_t *t);
 
-/* The open bits, the short bits of the chip to 0; the record is only read, so these two may run side by side on one. 0 stores n and t.
- * 14, 10 (buffer under 9). */
+/* The open bits, the short bits of the chip to 0; these two may run side by side on one record. 0 stores n and t. 14, 10 (buffer under 9).
+ * Each reads record and changes buffer, n and t, none null. */
 uint32_t lp586x_clear_opens(const uint8_t *record, size_t record_size, uint8_t *buffer, size_t buffer_size, uint32_t *n, uint32_t *t);
 uint32_t lp586x_clear_shorts(const uint8_t *record, size_t record_size, uint8_t *buffer, size_t buffer_size, uint32_t *n, uint32_t *t);
 
 /* Where a transaction stands in a list: length bytes from offset on. The index counts from 0, and the list's size is 4 + 2n + t, not that
- * of a buffer that holds it. 0 stores both. 11 (as lp586x_chip_feed), 26 (an index of n or more). */
+ * of a buffer that holds it. 0 stores both. 11 (as lp586x_chip_feed), 26 (an index of n or more).
+ * Reads list, changes offset and length, none null. */
 uint32_t lp586x_transaction(const uint8_t *list, size_t list_size, uint32_t index, uint32_t *offset, uint32_t *length);
 
 /* ---- Lamp faults */
 
 /* The 67 bytes 064h to 0A6h as read from the chip: the first 198 bytes of the result become, by dot number, 0 sound, 1 open, 2 short,
  * 3 both, 4 no such dot. opens_agree is 1 if bit 1 of 064h says whether a dot is open, shorts_agree if bit 0 does for short, else 0.
- * No record is used. 1, 13, 10 (result under 198). */
+ * 1, 13, 10 (result under 198).
+ * Reads bytes, changes result, opens_agree and shorts_agree, none null. No record is used. */
 uint32_t lp586x_faults(uint32_t member, const uint8_t *bytes, size_t bytes_size, uint8_t *result, size_t result_size, uint32_t *opens_agree, uint32_t *shorts_agree);
 
 /* ---- The chip model, for tests */
 
-/* A chip that was just given power. 14 (size), 1, 2, 3. */
+/* A chip that was just given power. 14 (size), 1, 2, 3.
+ * Changes chip, not null. */
 uint32_t lp586x_chip_at_reset(uint8_t *chip, size_t chip_size, uint32_t member, uint32_t bus, uint32_t pins);
 
-/* A loss of power; a chip whose member is above 4 stays as it is. 14 (size). */
+/* A loss of power; a chip whose member is above 4 stays as it is. 14 (size).
+ * Changes chip, not null. */
 uint32_t lp586x_chip_power_lost(uint8_t *chip, size_t chip_size);
 
 /* A list, transaction by transaction, as the chip hears it on the bus: reads and writes to other chips pass by. 14, 11 (size under 4, a
- * length below 3, lengths that do not add up to t, or a size other than 4 + 2n + t). */
+ * length below 3, lengths that do not add up to t, or a size other than 4 + 2n + t).
+ * Changes chip, reads list, neither null. */
 uint32_t lp586x_chip_feed(uint8_t *chip, size_t chip_size, const uint8_t *list, size_t list_size);
 
 #ifdef __cplusplus
