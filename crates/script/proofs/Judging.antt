@@ -10,8 +10,8 @@ use native.Mathlib.Numerals.{add-one}
 use native.Mathlib.Omega.{arith}
 use borrow.Author.Tests.{ltb-true, ltb-false, lt-ltb, le-ltb, le-leb, lt-leb, eq-eqb, ne-eqb}
 use lib.Dec.{ltb, eqb}
-use lib.ListN.{length, getD, take, drop, List·getD-map, List·getD-eq-default}
-use lib.Seq.{drop-length, take-nil}
+use lib.ListN.{length, getD, take, drop, drop-of-length-le, List·getD-map, List·getD-eq-default}
+use lib.Seq.{drop-cons, drop-length, take-nil}
 use Rattle.script.specs.declared.command.Command as command
 use Rattle.script.specs.declared.command.Line.{Line}
 use Rattle.script.specs.declared.command.Line.the-variants.{Run, Aside}
@@ -19,10 +19,11 @@ use Rattle.script.specs.declared.command.Aside.the-variants.{Silent, Lam
 use Rattle.script.specs.declared.command.Part.the-variants.{Chip}
 use Rattle.script.specs.declared.numbers.Number.{Number}
 use Rattle.script.specs.declared.numbers.Number.the-variants.{Value, Bad}
+use Rattle.script.specs.declared.lines.NumberKind.{NumberKind}
 use Rattle.script.specs.declared.lines.Three as three
 use Rattle.script.specs.Words.{codes, wordAt, wordCount, sameText}
 use Rattle.script.specs.Table.{rowAt, cellAt, columnFrom, columnOf, placeOf}
-use Rattle.script.specs.Lines.{Row, lines, firstWords, otherKinds, noLine, lineAt, namedOf, argumentOf, valueAt, threeOf, argumentsOf, callAt, calledBy, judged, withoutCr, isSilent, tableLine, lineOf}
+use Rattle.script.specs.Lines.{Row, lines, kindAmong, firstWords, otherKinds, noLine, lineAt, namedOf, argumentOf, valueAt, threeOf, argumentsOf, callAt, calledBy, judged, withoutCr, isSilent, tableLine, lineOf}
 use Rattle.script.proofs.Reading.{word-empty}
 
 -- ---- tables
@@ -118,6 +119,22 @@ unfolding namedOf
 named-none w t k e h =
     let past : length (columnOf t 0) ≤ placeOf w (columnOf t 0) = omega (arith, column-length t 0) in
     rw (le-ltb _ _ past) refl
+
+-- where the kind of letter a stands, as seen from row k, which has not passed it
+abbrev pub Seeks : List NumberKind → ℕ → ℕ → Type 0
+Seeks xs a k = kindAmong (drop k xs) a ≡ kindAmong xs a
+
+module _ (xs : List NumberKind) (a k n : ℕ) (size : length xs ≡ n) where
+  pub seeks-here : (d : NumberKind) → k < n → getD xs k d .letter ≡ a → Seeks xs a k → getD xs k d ≡ kindAmong xs a
+  unfolding kindAmong
+  seeks-here d h e s = sym (rw (drop-cons xs k d (rw size h), kindAmong, eq-eqb _ _ e) refl) ∙ s
+
+  pub seeks-more : (d : NumberKind) → k < n → (getD xs k d .letter ≡ a → ⊥) → Seeks xs a k → Seeks xs a (k + 1)
+  unfolding kindAmong
+  seeks-more d h e s = rw (add-one k) (sym (rw (drop-cons xs k d (rw size h), kindAmong, ne-eqb _ _ e) refl) ∙ s)
+
+  pub seeks-nowhere : n ≤ k → Seeks xs a k → kindAmong [] a ≡ kindAmong xs a
+  seeks-nowhere h s = sym (ap (λ (ys : List NumberKind). kindAmong ys a) (drop-of-length-le xs {i = k} (rw size h))) ∙ s
 
 pub value-none : (ks l : List ℕ) (n : ℕ) → length ks ≤ n → Value 0 ≡ valueAt ks l n
 unfolding valueAt

@@ -4,7 +4,7 @@ use mathlib.Core.Path.{_≡_, refl, sym, ap, _∙_}
 use mathlib.Core.Bool.{Bool, true, false, cond, _&&_}
 use mathlib.Core.List.{List, [], _∷_}
 use Prim.Native.Nat.{ℕ, zero, suc, _+_, _-_, _*_, _/_, _%_, _≤_, _<_}
-use native.Mathlib.Nat.{mul-le-mul-right, not-suc-le-zero}
+use native.Mathlib.Nat.{mul-le-mul-right, mul-comm, le-div-iff-mul-le, div-lt-iff-lt-mul, not-suc-le-zero}
 use native.Mathlib.Numerals.{add-one}
 use native.Mathlib.Omega.{arith}
 use borrow.Author.Tests.{lt-ltb, le-ltb, le-leb, lt-leb, eq-eqb, ne-eqb}
@@ -139,30 +139,18 @@ unfolding allDigits
 digits-all base w i h a = sym (rw (drop-of-length-le w h) refl) ∙ a
 
 -- what a loop has of a number: the digits so far are digits and say v
-pub record Reads (base most : ℕ) (w : List ℕ) (i v : ℕ) : Type 0 where
+pub record Reads (base digits most : ℕ) (w : List ℕ) (i v : ℕ) : Type 0 where
   pub inside : i ≤ length w
   pub some : 0 < length w
+  pub few : length w ≤ digits
   pub small : v ≤ most
-  pub digits : allDigits base (drop i w) ≡ allDigits base w
+  pub all-digits : allDigits base (drop i w) ≡ allDigits base w
   pub value : valueFrom base v (drop i w) ≡ valueFrom base 0 w
-
-pub reads-none : (base most : ℕ) (w : List ℕ) → 0 < length w → Reads base most w 0 0
-reads-none base most w h = record { inside = omega arith; some = h; small = omega arith; digits = refl; value = refl }
 
 value-next : (base : ℕ) (w : List ℕ) (i v d : ℕ) → i < length w → d ≡ digitOf (getD w i 0) →
     valueFrom base v (drop i w) ≡ valueFrom base (base * v + d) (drop (i + 1) w)
 unfolding valueFrom
 value-next base w i v d h e = rw (next-left w i h, valueFrom, e) refl
-
-pub reads-more : (base most : ℕ) (w : List ℕ) (i v d : ℕ) → i < length w → d ≡ digitOf (getD w i 0) → d < base → base * v + d ≤ most →
-    Reads base most w i v → Reads base most w (i + 1) (base * v + d)
-reads-more base most w i v d h e l m r = record {
-  inside = omega arith;
-  some = r .some;
-  small = m;
-  digits = digits-more base w i d h e l (r .digits);
-  value = sym (value-next base w i v d h e) ∙ r .value;
-}
 
 -- digits that follow make no number smaller
 value-least : (base : ℕ) → 1 ≤ base → (w : List ℕ) (v : ℕ) → v ≤ valueFrom base v w
@@ -173,40 +161,68 @@ value-least base h (b ∷ w) v =
     let once : 1 * v ≤ base * v = mul-le-mul-right v h in
     omega (arith, rest, once)
 
-pub reads-empty : (base most : ℕ) (w : List ℕ) → length w ≡ 0 → Bad ≡ numeralOf base most w
+-- a number has a further digit where it is at most the largest one divided by the base
+pub digit-follows : (base v most : ℕ) → (base ≡ 0 → ⊥) → v ≤ most / base → base * v ≤ most
+digit-follows base v most b h = rw (mul-comm base v) (le-div-iff-mul-le {k = base} {x = v} {y = most} (omega (arith, b)) .0 h)
+
+no-digit-follows : (base v most d : ℕ) → (base ≡ 0 → ⊥) → most / base < v → most < base * v + d
+no-digit-follows base v most d b h =
+    let above : most < v * base = div-lt-iff-lt-mul {k = base} {x = most} {y = v} (omega (arith, b)) .0 h in
+    omega (arith, above, mul-comm base v)
+
+pub reads-empty : (base digits most : ℕ) (w : List ℕ) → length w ≡ 0 → Bad ≡ numeralOf base digits most w
 unfolding numeralOf isNumeral
-reads-empty base most w h =
+reads-empty base digits most w h =
     let none : ltb 0 (length w) ≡ false = le-ltb 0 (length w) (omega arith) in
     rw none refl
 
-pub reads-wrong : (base most : ℕ) (w : List ℕ) (i v d : ℕ) → i < length w → d ≡ digitOf (getD w i 0) → base ≤ d → Reads base most w i v →
-    Bad ≡ numeralOf base most w
+pub reads-many : (base digits most : ℕ) (w : List ℕ) → (length w ≡ 0 → ⊥) → digits < length w → Bad ≡ numeralOf base digits most w
 unfolding numeralOf isNumeral
-reads-wrong base most w i v d h e l r = rw (lt-ltb _ _ (r .some), ← digits-wrong base w i d h e l (r .digits)) refl
+reads-many base digits most w s h = rw (lt-ltb 0 (length w) (omega (arith, s)), lt-leb (length w) digits h) refl
 
-pub reads-large : (base most : ℕ) (w : List ℕ) (i v d : ℕ) → 1 ≤ base → i < length w → d ≡ digitOf (getD w i 0) → d < base → most < base * v + d →
-    Reads base most w i v → Bad ≡ numeralOf base most w
-unfolding numeralOf isNumeral
-reads-large base most w i v d b h e l m r =
-    let least = value-least base b (drop (i + 1) w) (base * v + d) in
-    let above : most < valueFrom base 0 w = omega (arith, least, value-next base w i v d h e, r .value) in
-    rw (lt-ltb _ _ (r .some), lt-leb _ _ above) (never (allDigits base w))
-  where
-    never : (t : Bool) → Bad ≡ cond (t && false) (Value (valueFrom base 0 w)) Bad
-    never true = refl
-    never false = refl
+pub reads-baseless : (base digits most : ℕ) (w : List ℕ) → (length w ≡ 0 → ⊥) → length w ≤ digits → base ≡ 0 → Bad ≡ numeralOf base digits most w
+unfolding numeralOf isNumeral allDigits
+reads-baseless base digits most [] s h e = absurd (s refl)
+reads-baseless base digits most (b ∷ w) s h e = rw (lt-ltb 0 (length (b ∷ w)) (omega arith), le-leb (length (b ∷ w)) digits h, e, le-ltb (digitOf b) 0 (omega arith)) refl
 
-pub reads-all : (base most : ℕ) (w : List ℕ) (i v : ℕ) → length w ≤ i → Reads base most w i v → Value v ≡ numeralOf base most w
+pub reads-none : (base digits most : ℕ) (w : List ℕ) → (length w ≡ 0 → ⊥) → length w ≤ digits → Reads base digits most w 0 0
+reads-none base digits most w s h = record { inside = omega arith; some = omega (arith, s); few = h; small = omega arith; all-digits = refl; value = refl }
+
+module _ (base digits most : ℕ) (w : List ℕ) (i v d : ℕ) (h : i < length w) (e : d ≡ digitOf (getD w i 0)) where
+  pub reads-more : d < base → base * v + d ≤ most → Reads base digits most w i v → Reads base digits most w (i + 1) (base * v + d)
+  reads-more l m r = record {
+    inside = omega arith;
+    some = r .some;
+    few = r .few;
+    small = m;
+    all-digits = digits-more base w i d h e l (r .all-digits);
+    value = sym (value-next base w i v d h e) ∙ r .value;
+  }
+
+  pub reads-wrong : base ≤ d → Reads base digits most w i v → Bad ≡ numeralOf base digits most w
+  unfolding numeralOf isNumeral
+  reads-wrong l r = rw (lt-ltb _ _ (r .some), le-leb _ _ (r .few), ← digits-wrong base w i d h e l (r .all-digits)) refl
+
+  pub reads-large : (base ≡ 0 → ⊥) → most < base * v + d → Reads base digits most w i v → Bad ≡ numeralOf base digits most w
+  unfolding numeralOf isNumeral
+  reads-large b m r =
+      let least = value-least base (omega (arith, b)) (drop (i + 1) w) (base * v + d) in
+      let above : most < valueFrom base 0 w = omega (arith, least, value-next base w i v d h e, r .value, m) in
+      rw (lt-ltb _ _ (r .some), le-leb _ _ (r .few), lt-leb _ _ above) (never (allDigits base w))
+    where
+      never : (t : Bool) → Bad ≡ cond (t && false) (Value (valueFrom base 0 w)) Bad
+      never true = refl
+      never false = refl
+
+  pub reads-past : (base ≡ 0 → ⊥) → most / base < v → Reads base digits most w i v → Bad ≡ numeralOf base digits most w
+  reads-past b m r = reads-large b (no-digit-follows base v most d b m) r
+
+pub reads-all : (base digits most : ℕ) (w : List ℕ) (i v : ℕ) → length w ≤ i → Reads base digits most w i v → Value v ≡ numeralOf base digits most w
 unfolding numeralOf isNumeral valueFrom
-reads-all base most w i v h r =
+reads-all base digits most w i v h r =
     let same : v ≡ valueFrom base 0 w = sym (rw (drop-of-length-le w h) refl) ∙ r .value in
-    let small : leb (valueFrom base 0 w) most ≡ true = le-leb (valueFrom base 0 w) most (omega (arith, r .small)) in
-    rw (lt-ltb _ _ (r .some), ← digits-all base w i h (r .digits), small) (ap Value same)
-
-pub product-small : (base v most : ℕ) → base ≤ 16 → v ≤ most → most ≤ 4294967295 → base * v ≤ 68719476720
-product-small base v most h l m =
-    let times : base * v ≤ 16 * v = mul-le-mul-right v h in
-    omega (arith, times)
+    let small : leb (valueFrom base 0 w) most ≡ true = le-leb (valueFrom base 0 w) most (omega (arith, r .small, same)) in
+    rw (lt-ltb _ _ (r .some), le-leb _ _ (r .few), ← digits-all base w i h (r .all-digits), small) (ap Value same)
 
 -- ---- byte strings
 

@@ -26,8 +26,8 @@ use Rattle.script.specs.Words.{codes, wordAt, wordCount, sameText}
 use Rattle.script.specs.Numbers.{allDigits, valueFrom, isNumeral, numeralOf}
 use Rattle.script.specs.Bytes.{isBytes}
 use Rattle.script.specs.Table.{placeOf}
-use Rattle.script.specs.Lines.{decimal, hex, byte, small, address, room, bytes, part, entry, onOff, parts, entries, switches}
-use Rattle.script.specs.Lines.{Row, lines, firstWords, noLine, lineAt, namedOf, argumentOf, valueAt, threeOf, argumentsOf, callAt, calledBy, judged, isSilent, tableLine, lineOf}
+use Rattle.script.specs.Lines.{bytes, part, entry, onOff, numberKinds, kindAmong, parts, entries, switches}
+use Rattle.script.specs.Lines.{Row, lines, firstWords, noLine, lineAt, namedOf, numberOf, argumentOf, valueAt, threeOf, argumentsOf, callAt, calledBy, judged, isSilent, tableLine, lineOf}
 
 -- ---- what a command asks for is there: the line of a byte string has at most 8,192 bytes, a buffer at most 4,096, and a byte that is put
 -- behind the calls' back is one, at an address below 908
@@ -74,16 +74,10 @@ Fits l (Aside x) = AsideFits l x
 -- the most that a word of a kind says
 mostOf : ℕ → ℕ
 mostOf k =
-    cond (eqb k decimal) 4294967295
-    (cond (eqb k hex) 4294967295
-    (cond (eqb k byte) 0xFF
-    (cond (eqb k small) 255
-    (cond (eqb k address) 0x38B
-    (cond (eqb k room) 4096
-    (cond (eqb k bytes) 0
-    (cond (eqb k part) 3
-    (cond (eqb k entry) 3
-    (cond (eqb k onOff) 2 0)))))))))
+    cond (eqb k bytes) 0
+    (cond (eqb k part) (length parts)
+    (cond (eqb k entry) (length entries)
+    (cond (eqb k onOff) (length switches) (kindAmong numberKinds k .most))))
 
 mostAt : List ℕ → ℕ → ℕ
 mostAt ks n = cond (ltb n (length ks)) (mostOf (getD ks n 0)) 0
@@ -97,7 +91,7 @@ EachFits l [] a b c = 0 ≤ 0
 EachFits l (r ∷ rs) a b c = Fits l (callWithin r a b c) × EachFits l rs a b c
 
 each-line-fits : (l : List ℕ) (a b c : ℕ) → length l ≤ 8192 → EachFits l lines a b c
-unfolding EachFits lines callWithin Fits CommandFits AsideFits LentFits BufferFits mostAt mostOf
+unfolding EachFits lines callWithin Fits CommandFits AsideFits LentFits BufferFits mostAt mostOf parts entries switches numberKinds kindAmong
 each-line-fits l a b c h = (omega arith, (omega arith, (omega arith, (omega arith, (omega arith, (omega arith, (omega arith, (omega arith, omega arith))))))))
 
 row-fits : (l : List ℕ) (rs : List Row) (k a b c : ℕ) → EachFits l rs a b c → Fits l (callWithin (getD rs k noLine) a b c)
@@ -126,14 +120,15 @@ most-either : (t : Bool) (x y : Number) (m n : ℕ) → Most x m → Most y n �
 most-either true x y m n p q = p
 most-either false x y m n p q = q
 
-numeral-most : (base most : ℕ) (w : List ℕ) → Most (numeralOf base most w) most
+numeral-most : (base digits most : ℕ) (w : List ℕ) → Most (numeralOf base digits most w) most
 unfolding numeralOf isNumeral
-numeral-most base most w = go (ltb 0 (length w)) (allDigits base w) (leb (valueFrom base 0 w) most) refl
+numeral-most base digits most w = go (ltb 0 (length w)) (leb (length w) digits) (allDigits base w) (leb (valueFrom base 0 w) most) refl
   where
-    go : (s d t : Bool) → leb (valueFrom base 0 w) most ≡ t → Most (cond (s && (d && t)) (Value (valueFrom base 0 w)) NoNumber) most
-    go true true t e = most-when t (valueFrom base 0 w) most (λ h. leb-true (valueFrom base 0 w) most (e ∙ h))
-    go true false t e = most-bad most
-    go false d t e = most-bad most
+    go : (s f d t : Bool) → leb (valueFrom base 0 w) most ≡ t → Most (cond (s && (f && (d && t))) (Value (valueFrom base 0 w)) NoNumber) most
+    go true true true t e = most-when t (valueFrom base 0 w) most (λ h. leb-true (valueFrom base 0 w) most (e ∙ h))
+    go true true false t e = most-bad most
+    go true false d t e = most-bad most
+    go false f d t e = most-bad most
 
 named-most : (w : List ℕ) (names : List (List ℕ)) → Most (namedOf w names) (length names)
 unfolding namedOf
@@ -142,18 +137,13 @@ named-most w names =
     (λ h. let inside = ltb-true (placeOf w names) (length names) h in omega arith)
 
 argument-most : (k : ℕ) (w : List ℕ) → Most (argumentOf k w) (mostOf k)
-unfolding argumentOf mostOf parts entries switches
+unfolding argumentOf mostOf numberOf
 argument-most k w =
-    most-either (eqb k decimal) _ _ _ _ (numeral-most 10 4294967295 w)
-    (most-either (eqb k hex) _ _ _ _ (numeral-most 16 4294967295 w)
-    (most-either (eqb k byte) _ _ _ _ (numeral-most 16 0xFF w)
-    (most-either (eqb k small) _ _ _ _ (numeral-most 10 255 w)
-    (most-either (eqb k address) _ _ _ _ (numeral-most 16 0x38B w)
-    (most-either (eqb k room) _ _ _ _ (numeral-most 10 4096 w)
-    (most-either (eqb k bytes) _ _ _ _ (most-when (isBytes w) 0 0 (λ h. omega arith))
+    let x = kindAmong numberKinds k in
+    most-either (eqb k bytes) _ _ _ _ (most-when (isBytes w) 0 0 (λ h. omega arith))
     (most-either (eqb k part) _ _ _ _ (named-most w parts)
     (most-either (eqb k entry) _ _ _ _ (named-most w entries)
-    (most-either (eqb k onOff) _ _ _ _ (named-most w switches) (most-bad 0))))))))))
+    (most-either (eqb k onOff) _ _ _ _ (named-most w switches) (numeral-most (x .base) (x .digits) (x .most) w))))
 
 value-most : (ks l : List ℕ) (n : ℕ) → Most (valueAt ks l n) (mostAt ks n)
 unfolding valueAt mostAt

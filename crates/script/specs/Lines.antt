@@ -20,6 +20,7 @@ use Rattle.script.specs.declared.command.Entry.{Entry}
 use Rattle.script.specs.declared.command.Entry.the-variants.{Member, Bus, Pins}
 use Rattle.script.specs.declared.numbers.Number.{Number}
 use Rattle.script.specs.declared.numbers.Number.the-variants.{Value, Bad as NoNumber}
+use Rattle.script.specs.declared.lines.NumberKind.{NumberKind}
 use Rattle.script.specs.declared.lines.Three.{Three}
 use Rattle.script.specs.declared.lines.Three.the-variants.{Values, Bad as NotAll}
 use Rattle.script.specs.Words.{codes, wordAt, wordCount, sameText}
@@ -68,6 +69,25 @@ entry = code "e"
 -- "`echo on`", "`echo off`"
 abbrev pub onOff : ℕ
 onOff = code "o"
+
+-- the kinds that are numbers: letter, base, the most digits ("leading zeros are allowed": as many as a line has), and the largest number
+abbrev kind : ℕ → ℕ → ℕ → ℕ → NumberKind
+kind k b d m = record { letter = k; base = b; digits = d; most = m }
+
+unfoldable pub numberKinds : List NumberKind
+numberKinds =
+    kind decimal 10 8192 4294967295
+    ∷ kind hex 16 8192 4294967295
+    ∷ kind byte 16 8192 0xFF
+    ∷ kind small 10 8192 255
+    ∷ kind address 16 8192 0x38B
+    ∷ kind room 10 8192 4096
+    ∷ []
+
+-- the kind of letter k; where there is none, one that has no numbers
+unfoldable pub kindAmong : List NumberKind → ℕ → NumberKind
+kindAmong [] k = kind k 0 0 0
+kindAmong (x ∷ xs) k = cond (eqb (x .letter) k) x (kindAmong xs k)
 
 -- the words of W, and what each of them names
 unfoldable pub parts : List (List ℕ)
@@ -149,19 +169,17 @@ lineAt k = getD lines k noLine
 unfoldable pub namedOf : List ℕ → List (List ℕ) → Number
 namedOf w names = cond (ltb (placeOf w names) (length names)) (Value (placeOf w names)) NoNumber
 
+-- the number that a word says
+unfoldable pub numberOf : NumberKind → List ℕ → Number
+numberOf x w = numeralOf (x .base) (x .digits) (x .most) w
+
 -- what a word of a kind says; a byte string says 0, since its bytes are lent
 unfoldable pub argumentOf : ℕ → List ℕ → Number
 argumentOf k w =
-    cond (eqb k decimal) (numeralOf 10 4294967295 w)
-    (cond (eqb k hex) (numeralOf 16 4294967295 w)
-    (cond (eqb k byte) (numeralOf 16 0xFF w)
-    (cond (eqb k small) (numeralOf 10 255 w)
-    (cond (eqb k address) (numeralOf 16 0x38B w)
-    (cond (eqb k room) (numeralOf 10 4096 w)
-    (cond (eqb k bytes) (cond (isBytes w) (Value 0) NoNumber)
+    cond (eqb k bytes) (cond (isBytes w) (Value 0) NoNumber)
     (cond (eqb k part) (namedOf w parts)
     (cond (eqb k entry) (namedOf w entries)
-    (cond (eqb k onOff) (namedOf w switches) NoNumber)))))))))
+    (cond (eqb k onOff) (namedOf w switches) (numberOf (kindAmong numberKinds k) w))))
 
 -- what word n behind the first says; 0 where the row has none
 unfoldable pub valueAt : List ℕ → List ℕ → ℕ → Number

@@ -28,10 +28,10 @@ unfoldable pub valueFrom : ℕ → ℕ → List ℕ → ℕ
 valueFrom base v [] = v
 valueFrom base v (b ∷ w) = valueFrom base (base * v + digitOf b) w
 
--- digits of the base, one or more, "leading zeros are allowed", that say no more than `most`
-unfoldable pub isNumeral : ℕ → ℕ → List ℕ → Bool
-isNumeral base most w = ltb 0 (length w) && (allDigits base w && leb (valueFrom base 0 w) most)
+-- digits of the base, one or more and at most so many, "leading zeros are allowed", that say no more than `most`
+unfoldable pub isNumeral : ℕ → ℕ → ℕ → List ℕ → Bool
+isNumeral base digits most w = ltb 0 (length w) && (leb (length w) digits && (allDigits base w && leb (valueFrom base 0 w) most))
 
--- the number that a word says in a base, where it is at most `most`
-unfoldable pub numeralOf : ℕ → ℕ → List ℕ → numbers.Number
-numeralOf base most w = cond (isNumeral base most w) (numbers.the-variants.Value (valueFrom base 0 w)) numbers.the-variants.Bad
+-- the number that a word of such digits says
+unfoldable pub numeralOf : ℕ → ℕ → ℕ → List ℕ → numbers.Number
+numeralOf base digits most w = cond (isNumeral base digits most w) (numbers.the-variants.Value (valueFrom base 0 w)) numbers.the-variants.Bad

@@ -1,9 +1,9 @@
 // The lines of a script, one table: the first word of a line, the kinds of its other words, and the command that the line is. A line that no
-// row fits is bad. A new line is a row of LINES and an arm.
+// row fits is bad. A new line is a row of LINES and an arm, a new kind of numbers a row of NUMBERS.
 ghost use mathlib.Core.Path.{_≡_};
 ghost use Prim.Native.Nat.{_+_};
 ghost use Rattle.script.specs.Table.{columnOf};
-ghost use Rattle.script.specs.Lines.{firstWords, otherKinds, namedOf, argumentOf, valueAt, threeOf, argumentsOf, partAt, entryAt, callAt, withoutCr, isSilent, lineOf};
+ghost use Rattle.script.specs.Lines.{numberKinds, kindAmong, numberOf, firstWords, otherKinds, namedOf, argumentOf, valueAt, threeOf, argumentsOf, partAt, entryAt, callAt, withoutCr, isSilent, lineOf};
 use crate::bytes::is_bytes;
 use crate::command::Aside;
 use crate::command::Command;
@@ -21,19 +21,63 @@ use calls::Setting;
 // The longest line that is a call, its LF not counted.
 pub const LONGEST: usize = 8192;
 
-// The kinds of words: a number in decimal
-const DECIMAL: u8 = b'd';
-// in hex
-const HEX: u8 = b'h';
-// hex, at most FF
-const BYTE: u8 = b'b';
-// decimal, at most 255
-const SMALL: u8 = b'n';
-// hex, at most 38B
-const ADDRESS: u8 = b'a';
-// decimal, at most 4,096
-const ROOM: u8 = b'r';
-// a byte string
+// A kind of words that are numbers: the letter that it has in LINES, the base, the most digits, and the largest number. LONGEST is as many
+// digits as a line has.
+struct NumberKind {
+    letter: u8,
+    base: usize,
+    digits: usize,
+    most: usize,
+}
+
+const NUMBER_KINDS: usize = 6;
+
+const NUMBERS: [NumberKind; NUMBER_KINDS] = [
+    // a number
+    NumberKind {
+        letter: b'd',
+        base: 10,
+        digits: LONGEST,
+        most: 4294967295,
+    },
+    // a number in hex
+    NumberKind {
+        letter: b'h',
+        base: 16,
+        digits: LONGEST,
+        most: 4294967295,
+    },
+    // a byte in hex
+    NumberKind {
+        letter: b'b',
+        base: 16,
+        digits: LONGEST,
+        most: 255,
+    },
+    // a byte
+    NumberKind {
+        letter: b'n',
+        base: 10,
+        digits: LONGEST,
+        most: 255,
+    },
+    // an address in hex
+    NumberKind {
+        letter: b'a',
+        base: 16,
+        digits: LONGEST,
+        most: 907,
+    },
+    // the length of a buffer
+    NumberKind {
+        letter: b'r',
+        base: 10,
+        digits: LONGEST,
+        most: 4096,
+    },
+];
+
+// The kinds of other words: a byte string
 const BYTES: u8 = b's';
 // `settings`, `image` or `chip`
 const PART: u8 = b'p';
@@ -41,8 +85,6 @@ const PART: u8 = b'p';
 const ENTRY: u8 = b'e';
 // `on` or `off`
 const ON_OFF: u8 = b'o';
-
-const LARGEST: usize = 4294967295;
 
 const ROWS: usize = 24;
 
@@ -174,17 +216,39 @@ fn named(word: &[u8], table: &[u8]) -> Number
     }
 }
 
+// The kind of numbers that has a letter; one of no digits where none has it.
+fn number_kind(letter: u8) -> NumberKind
+    ensures { λ r. ⌜ r ≡ kindAmong numberKinds letter ⌝ }
+{
+    let kinds = NUMBERS;
+    let mut k = 0;
+    while k < NUMBER_KINDS {
+        let kind = kinds[k];
+        if kind.letter == letter {
+            return kind;
+        }
+        k += 1;
+    }
+    NumberKind {
+        letter,
+        base: 0,
+        digits: 0,
+        most: 0,
+    }
+}
+
+fn number(letter: u8, word: &[u8]) -> Number
+    ensures { λ r. ⌜ r ≡ numberOf (kindAmong numberKinds letter) (now (word .entry)) ⌝ }
+{
+    let kind = number_kind(letter);
+    numbers::read(word, kind.base, kind.digits, kind.most)
+}
+
 // What a word of a kind says; a byte string stays in its line, and says 0.
 fn argument(kind: u8, word: &[u8]) -> Number
     ensures { λ r. ⌜ r ≡ argumentOf kind (now (word .entry)) ⌝ }
 {
     match kind {
-        DECIMAL => numbers::read(word, 10, LARGEST),
-        HEX => numbers::read(word, 16, LARGEST),
-        BYTE => numbers::read(word, 16, 255),
-        SMALL => numbers::read(word, 10, 255),
-        ADDRESS => numbers::read(word, 16, 907),
-        ROOM => numbers::read(word, 10, 4096),
         BYTES => if is_bytes(word) {
             Number::Value(0)
         } else {
@@ -193,7 +257,7 @@ fn argument(kind: u8, word: &[u8]) -> Number
         PART => named(word, b"settings        image           chip            "),
         ENTRY => named(word, b"member          bus             pins            "),
         ON_OFF => named(word, b"on              off             "),
-        _ => Number::Bad,
+        _ => number(kind, word),
     }
 }
 

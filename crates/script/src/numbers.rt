@@ -1,5 +1,5 @@
-// Numbers in decimal (base 10) and in hex (base 16, either case). Leading zeros are allowed; an empty word, a wrong digit and a
-// number above the most that is asked for are bad.
+// Numbers in decimal (base 10) and in hex (base 16, either case). Leading zeros are allowed; an empty word, a wrong digit, more digits
+// than are asked for and a number above the most that is asked for are bad.
 ghost use mathlib.Core.Path.{_≡_};
 ghost use Prim.Native.Nat.{_≤_};
 ghost use Rattle.script.specs.Numbers.{digitOf, numeralOf};
@@ -34,13 +34,20 @@ pub(crate) fn digit(byte: u8) -> usize
     16
 }
 
-pub(crate) fn read(word: &[u8], base: usize, most: usize) -> Number
-    requires { ⌜ (1 ≤ base) × (base ≤ 16) × (most ≤ 4294967295) ⌝ }
-    ensures { λ r. ⌜ r ≡ numeralOf base most (now (word .entry)) ⌝ }
+pub(crate) fn read(word: &[u8], base: usize, digits: usize, most: usize) -> Number
+    ensures { λ r. ⌜ r ≡ numeralOf base digits most (now (word .entry)) ⌝ }
 {
     if word.len() == 0 {
         return Number::Bad;
     }
+    if digits < word.len() {
+        return Number::Bad;
+    }
+    if base == 0 {
+        return Number::Bad;
+    }
+    // behind a larger number no digit can follow
+    let last = most / base;
     let mut value = 0;
     let mut i = 0;
     while i < word.len() {
@@ -48,10 +55,14 @@ pub(crate) fn read(word: &[u8], base: usize, most: usize) -> Number
         if base <= next {
             return Number::Bad;
         }
-        value = base * value + next;
-        if most < value {
+        if last < value {
             return Number::Bad;
         }
+        value = base * value;
+        if most - value < next {
+            return Number::Bad;
+        }
+        value += next;
         i += 1;
     }
     Number::Value(value)

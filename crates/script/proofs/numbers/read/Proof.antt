@@ -1,25 +1,33 @@
 -- `script::numbers::read` meets its contract.
 -- Assumes nothing.
-use borrow.Author.Needs.{needs}
+use Prim.Native.Nat.{_-_, _*_, _≤_, _<_, _+_}
 use native.Mathlib.Omega.{arith}
-use Rattle.script.proofs.Reading.{product-small}
-use Rattle.script.proofs.Reading.{Reads, reads-none, reads-more, reads-empty, reads-wrong, reads-large, reads-all}
+use borrow.Author.Needs.{needs}
 use lib.ListN.{length}
-use Prim.Native.Nat.{_-_}
+use Rattle.script.proofs.Reading.{Reads, digit-follows, reads-empty, reads-many, reads-baseless, reads-none, reads-more, reads-wrong, reads-large, reads-past, reads-all}
 use Rattle.script.proofs.numbers.read.Statement.{statement}
 use Rattle.script.proofs.numbers.read.Tie as tie
 
 abbrev Inv-loop : tie.InvT-loop
-Inv-loop word base most value₀ i₀ value i = Reads base most word i value
+Inv-loop word base digits most last value₀ i₀ value i = Reads base digits most word i value
 
 abbrev μ-loop : tie.MeasureT-loop
-μ-loop word base most value₀ i₀ value i = length word - i
+μ-loop word base digits most last value₀ i₀ value i = length word - i
 
 returns : tie.Need-returns Inv-loop μ-loop
-returns c = reads-empty _ _ _ (c .if1 .taken)
+returns c = reads-empty _ _ _ _ (c .if1 .taken)
+
+returns-2 : tie.Need-returns-2 Inv-loop μ-loop
+returns-2 c = reads-many _ _ _ _ (c .before .if1 .left) (c .if2 .taken)
+
+returns-3 : tie.Need-returns-3 Inv-loop μ-loop
+returns-3 c = reads-baseless _ _ _ _ (c .before .before .if1 .left) (c .before .if2 .left) (c .if3 .taken)
+
+div-last : tie.Need-div-last Inv-loop μ-loop
+div-last c = omega (arith, c .if3 .left)
 
 loop-holds : tie.Need-loop-holds Inv-loop μ-loop
-loop-holds c = reads-none _ _ _ (omega (arith, c .if1 .left))
+loop-holds c = reads-none _ _ _ _ (c .before .before .if1 .left) (c .before .if2 .left)
 
 shared-slice-read-digit : tie.Need-shared-slice-read-digit Inv-loop μ-loop
 shared-slice-read-digit c = omega arith
@@ -27,25 +35,31 @@ shared-slice-read-digit c = omega arith
 digit-requires : tie.Need-digit-requires Inv-loop μ-loop
 digit-requires c κs = search needs
 
-returns-2 : tie.Need-returns-2 Inv-loop μ-loop
-returns-2 c = reads-wrong _ _ _ _ _ _ (c .before .before .before .loop-test .taken) (c .before .digit .ensures .0) (c .if2 .taken) (c .before .before .before .before .loop .inv)
+returns-4 : tie.Need-returns-4 Inv-loop μ-loop
+returns-4 c =
+    let test = c .before .before .before in
+    reads-wrong _ _ _ _ _ _ _ (test .loop-test .taken) (c .before .digit .ensures .0) (c .if4 .taken) (test .before .loop .inv)
+
+returns-5 : tie.Need-returns-5 Inv-loop μ-loop
+returns-5 c =
+    let test = c .before .before .before .before in
+    reads-past _ _ _ _ _ _ _ (test .loop-test .taken) (c .before .before .digit .ensures .0) (test .before .before .if3 .left) (c .if5 .taken) (test .before .loop .inv)
 
 mul-value : tie.Need-mul-value Inv-loop μ-loop
-mul-value c =
-    let start = c .before .before .before .before .before .before .before in
-    omega (arith, product-small _ _ _ (start .pre .1) (c .before .before .before .before .loop .inv .small) (start .pre .2))
+mul-value c = omega (arith, digit-follows _ _ _ (c .before .before .before .before .before .before .if3 .left) (c .if5 .left))
+
+sub-if6 : tie.Need-sub-if6 Inv-loop μ-loop
+sub-if6 c = digit-follows _ _ _ (c .before .before .before .before .before .before .if3 .left) (c .if5 .left)
+
+returns-6 : tie.Need-returns-6 Inv-loop μ-loop
+returns-6 c =
+    let test = c .before .before .before .before .before in
+    reads-large _ _ _ _ _ _ _ (test .loop-test .taken) (c .before .before .before .digit .ensures .0) (test .before .before .if3 .left) (omega (arith, c .if6 .taken)) (test .before .loop .inv)
 
 add-value : tie.Need-add-value Inv-loop μ-loop
 add-value c =
     let start = c .before .before .before .before .before .before .before in
-    omega (arith, product-small _ _ _ (start .pre .1) (c .before .before .before .before .loop .inv .small) (start .pre .2), c .before .digit .ensures .1)
-
-returns-3 : tie.Need-returns-3 Inv-loop μ-loop
-returns-3 c =
-    let test = c .before .before .before .before in
-    let loop = test .before in
-    reads-large _ _ _ _ _ _ (loop .before .before .before .pre .0) (test .loop-test .taken) (c .before .before .digit .ensures .0) (c .before .if2 .left) (c .if3 .taken)
-    (loop .loop .inv)
+    omega (arith, digit-follows _ _ _ (start .if3 .left) (c .before .if5 .left), c .if6 .left)
 
 add-i : tie.Need-add-i Inv-loop μ-loop
 add-i c = omega arith
@@ -55,11 +69,12 @@ loop-less c = omega arith
 
 loop-again : tie.Need-loop-again Inv-loop μ-loop
 loop-again c =
-    let test = c .before .before .before .before in
-    reads-more _ _ _ _ _ _ (test .loop-test .taken) (c .before .before .digit .ensures .0) (c .before .if2 .left) (c .if3 .left) (test .before .loop .inv)
+    let test = c .before .before .before .before .before in
+    let follows = digit-follows _ _ _ (test .before .before .if3 .left) (c .before .if5 .left) in
+    reads-more _ _ _ _ _ _ _ (test .loop-test .taken) (c .before .before .before .digit .ensures .0) (c .before .before .if4 .left) (omega (arith, follows, c .if6 .left)) (test .before .loop .inv)
 
-returns-4 : tie.Need-returns-4 Inv-loop μ-loop
-returns-4 c = reads-all _ _ _ _ _ (c .loop-test .left) (c .before .loop .inv)
+returns-7 : tie.Need-returns-7 Inv-loop μ-loop
+returns-7 c = reads-all _ _ _ _ _ _ (c .loop-test .left) (c .before .loop .inv)
 
 pub read-spec : {M : Type 1} → statement M
 read-spec =
@@ -68,14 +83,19 @@ read-spec =
     Inv-loop
     μ-loop
     returns
+    returns-2
+    returns-3
+    div-last
     loop-holds
     shared-slice-read-digit
     digit-requires
-    returns-2
+    returns-4
+    returns-5
     mul-value
+    sub-if6
+    returns-6
     add-value
-    returns-3
     add-i
     loop-less
     loop-again
-    returns-4)
+    returns-7)
