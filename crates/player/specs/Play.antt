@@ -39,6 +39,7 @@ use Rattle.player.specs.declared.Player.{Player}
 unfoldable pub fresh : Player
 fresh = record { session = openedSession 0 0 0; echo = false; lines = 0; list = replicate 1174 0; listed = 0; bus = 0 }
 
+-- "It runs the real calls on one host record and one chip model": a call changes these, and nothing else of the player
 unfoldable pub withSession : Player → Session → Player
 withSession p s = record { session = s; echo = p .echo; lines = p .lines; list = p .list; listed = p .listed; bus = p .bus }
 
@@ -46,6 +47,7 @@ withSession p s = record { session = s; echo = p .echo; lines = p .lines; list =
 unfoldable pub countedFrom : ℕ → ℕ
 countedFrom n = cond (ltb n 4294967295) (n + 1) 4294967295
 
+-- "Every line of the script counts"
 unfoldable pub counted : Player → Player
 counted p = record { session = p .session; echo = p .echo; lines = countedFrom (p .lines); list = p .list; listed = p .listed; bus = p .bus }
 
@@ -63,12 +65,13 @@ effect p c l = effectOf (p .session) c l freshBuffer
 unfoldable pub commandLine : Player → Command → List ℕ → List ℕ
 commandLine p c l = replyLine (effect p c l .reply) (effect p c l .shown)
 
--- an Update, a Reset and the Clears are lent a buffer and write a list into it
+-- whether a buffer is lent
 unfoldable pub isRoom : lents.Lent → Bool
 isRoom Nothing = false
 isRoom (Word k) = false
 isRoom (Room n) = true
 
+-- "The last list is that of the last accepted `update`, `reset`, `clearopens` or `clearshorts`": the calls that are lent a buffer, and the Clears
 unfoldable pub writesList : Command → Bool
 writesList commands.Bad = false
 writesList (commands.Open m b p) = false
@@ -86,6 +89,7 @@ writesList commands.Check = false
 unfoldable pub sizeBy : numbers.Numbers → ℕ
 sizeBy n = cond (eqb (n .number) 0 && (ltb (n .first) 65536 && ltb (n .second) 65536)) (4 + 2 * n .first + n .second) 0
 
+-- the length of the list that a reply tells of; 0 where it tells of none
 unfoldable pub listedSize : Reply → ℕ
 listedSize Bad = 0
 listedSize (Numbers n) = 0
@@ -94,6 +98,7 @@ listedSize Bytes = 0
 listedSize Same = 0
 listedSize (Differs a) = 0
 
+-- "A refused call, `feed`, `faults`, `power` and `open` leave it as it is": the length of the list to keep, 0 where there is none
 unfoldable pub keptSize : Command → Reply → ℕ
 keptSize c r = cond (writesList c) (listedSize r) 0
 
@@ -111,6 +116,7 @@ keeping p k shown =
     })
     p
 
+-- the player after a command: the session that it leaves, and the list that it wrote
 unfoldable pub afterCommand : Player → Command → List ℕ → Player
 afterCommand p c l =
     keeping (withSession p (effect p c l .session)) (keptSize c (effect p c l .reply)) (effect p c l .shown)
@@ -132,6 +138,7 @@ unfoldable pub faultMapBy : ℕ → faults.Answer → List ℕ → List ℕ
 faultMapBy m (faults.the-variants.Read o s) readings = faultsText m readings
 faultMapBy m (faults.the-variants.Refused r) readings = decimalText (refusalNumber r)
 
+-- of the member's 198 readings with these bytes
 unfoldable pub faultMapText : ℕ → List ℕ → List ℕ
 faultMapText m bytes = faultMapBy m (readingsAnswer m bytes) (faultsResult m bytes (replicate 198 0))
 
@@ -156,6 +163,7 @@ asideLine p LastList l = lastListText (p .bus) (p .list) (p .listed) ++ (0x0A �
 unfoldable pub withEcho : Player → Bool → Player
 withEcho p on = record { session = p .session; echo = on; lines = p .lines; list = p .list; listed = p .listed; bus = p .bus }
 
+-- "lines for people, which change neither the record nor the chip": `echo` alone changes the player
 unfoldable pub afterAside : Player → asides.Aside → Player
 afterAside p Silent = p
 afterAside p (Echo on) = withEcho p on
@@ -170,6 +178,7 @@ afterAside p LastList = p
 unfoldable pub echoText : Bool → ℕ → List ℕ → List ℕ
 echoText on n l = cond (not (isSilent l) && on) (echoLine n (take 8192 l)) []
 
+-- a command prints its reply, an aside what it shows
 unfoldable pub lineTextBy : Player → Line → List ℕ → List ℕ
 lineTextBy p (Run c) l = commandLine p c l
 lineTextBy p (Aside x) l = asideLine p x l
@@ -178,10 +187,12 @@ lineTextBy p (Aside x) l = asideLine p x l
 unfoldable pub lineText : Player → List ℕ → List ℕ
 lineText p l = lineTextBy p (lineOf l) l
 
+-- what a command and an aside leave
 unfoldable pub afterBy : Player → Line → List ℕ → Player
 afterBy p (Run c) l = afterCommand p c l
 afterBy p (Aside x) l = afterAside p x
 
+-- the player after a line that was counted
 unfoldable pub afterLine : Player → List ℕ → Player
 afterLine p l = afterBy p (lineOf l) l
 

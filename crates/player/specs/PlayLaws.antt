@@ -1,19 +1,20 @@
--- Laws of Play.antt: what an aside prints has no more bytes than a reply, and no line prints more than 16,407.
+-- Laws of Play.antt: `list` shows the last list whole; what an aside prints has no more bytes than a reply, and no line prints more than 16,407.
 -- Assumes nothing.
-use mathlib.Core.Path.{_≡_, refl}
+use mathlib.Core.Path.{_≡_, refl, _∙_}
 use mathlib.Core.Bool.{Bool, true, false, cond, not, _&&_}
 use mathlib.Core.List.{List, [], _∷_, _++_}
 use Prim.Native.Nat.{ℕ, _+_, _*_, _^_, _≤_, _<_}
 use native.Mathlib.Decide.{decLt}
 use native.Mathlib.Omega.{arith}
-use borrow.Author.Tests.{lt-ltb, le-ltb, leb-true}
+use borrow.Author.Tests.{lt-ltb, le-ltb, le-leb, leb-true}
 use lib.Dec.{ltb, leb}
 use lib.ListN.{length, take, length-append, length-take}
+use lib.Seq.{length-take-le}
 use Rattle.map.specs.RefusalLaws.{refusal-small}
 use Rattle.faults.specs.declared.Answer as faults
 use Rattle.history.specs.declared.World.{World}
-use Rattle.text.specs.Text.{decimalText}
-use Rattle.text.specs.TextLaws.{decimal-length}
+use Rattle.text.specs.Text.{placed, placeAfter, decimalText}
+use Rattle.text.specs.TextLaws.{placed-length, placed-room, after-room, decimal-length}
 use Rattle.script.specs.declared.command.Part.{Part}
 use Rattle.script.specs.declared.command.Part.the-variants.{Settings, Image, Chip}
 use Rattle.script.specs.declared.command.Aside as asides
@@ -29,7 +30,7 @@ use Rattle.pictures.specs.PictureLaws.{lamps-most, faults-most, differences-mos
 use Rattle.session.specs.declared.Session.{Session}
 use Rattle.session.specs.LengthLaws.{longestReply}
 use Rattle.player.specs.declared.Player.{Player}
-use Rattle.player.specs.Play.{countedFrom, counted, lampsOf, faultMapBy, faultMapText, differencesOf, lastListText, asideLine, echoText, lineText, echoedText, printed, longestLine}
+use Rattle.player.specs.Play.{countedFrom, counted, lampsOf, faultMapBy, faultMapText, differencesOf, lastListText, keeping, asideLine, echoText, lineText, echoedText, printed, longestLine}
 
 -- ---- asides
 
@@ -65,6 +66,20 @@ last-list bus list k = go (ltb 0 k) (leb k 1174) (leb k (length list)) refl
     go true true false e = omega arith
     go true false c e = omega arith
     go false b c e = omega arith
+
+-- "`list` shows the last list that a call wrote": behind a call that left k bytes of one, all of it, with the heads of the record's bus
+pub list-shows : (p : Player) (k : ℕ) (shown l : List ℕ) → 0 < k → k ≤ 1174 → k ≤ length shown → length (p .list) ≡ 1174 →
+    asideLine (keeping p k shown) LastList l ≡ listText (p .session .world .host .header .bus) (take k shown) ++ (0x0A ∷ [])
+unfolding asideLine lastListText keeping
+list-shows p k shown l some fits there size =
+    let xs : List ℕ = take k shown in
+    let whole : length xs ≡ k = length-take-le k shown there in
+    let room : 0 + length xs ≤ length (p .list) = omega (arith, whole) in
+    let none : 0 + length xs ≡ k = omega (arith, whole) in
+    let place : placeAfter (length (p .list)) 0 xs ≡ k = after-room (length (p .list)) 0 xs room ∙ none in
+    let inside : k ≤ length (placed (p .list) 0 xs) = omega (arith, placed-length (p .list) 0 xs) in
+    let bytes : take k (placed (p .list) 0 xs) ≡ xs = rw none at (placed-room (p .list) 0 xs room) in
+    rw (lt-ltb 0 k some, le-leb k (length shown) there, place, lt-ltb 0 k some, le-leb k 1174 fits, le-leb k (length (placed (p .list) 0 xs)) inside, bytes) refl
 
 pub aside-most : (p : Player) (x : asides.Aside) (l : List ℕ) → length (asideLine p x l) ≤ longestReply
 unfolding asideLine faultMapText

@@ -91,8 +91,8 @@ fn put_reply(text: &mut [u8], at: usize, reply: Reply, bytes: &[u8]) -> usize
 pub fn put_line(text: &mut [u8], at: usize, reply: Reply, bytes: &[u8]) -> usize
     ensures { λ r. ⌜ Puts (now (text .entry)) at (replyLine reply (now (bytes .entry))) (now (text .exit)) r ⌝ }
 {
-    let next = put_reply(text, at, reply, bytes);
-    put(text, next, b'\n')
+    let end = put_reply(text, at, reply, bytes);
+    put(text, end, b'\n')
 }
 
 // A line before the reply: the number of the script's line, and the line itself.

@@ -27,7 +27,7 @@ use Rattle.script.specs.Numbers.{allDigits, valueFrom, isNumeral, numera
 use Rattle.script.specs.Bytes.{isBytes}
 use Rattle.script.specs.Table.{placeOf}
 use Rattle.script.specs.Lines.{bytes, part, entry, onOff, numberKinds, kindAmong, parts, entries, switches}
-use Rattle.script.specs.Lines.{Row, lines, firstWords, noLine, lineAt, namedOf, numberOf, argumentOf, valueAt, threeOf, argumentsOf, callAt, calledBy, judged, isSilent, tableLine, lineOf}
+use Rattle.script.specs.Lines.{Row, lines, firstWords, noLine, lineAt, namedOf, numeralBy, argumentOf, valueAt, threeOf, argumentsOf, callAt, calledBy, judged, isSilent, tableLine, lineOf}
 
 -- ---- what a command asks for is there: the line of a byte string has at most 8,192 bytes, a buffer at most 4,096, and a byte that is put
 -- behind the calls' back is one, at an address below 908
@@ -137,7 +137,7 @@ named-most w names =
     (λ h. let inside = ltb-true (placeOf w names) (length names) h in omega arith)
 
 argument-most : (k : ℕ) (w : List ℕ) → Most (argumentOf k w) (mostOf k)
-unfolding argumentOf mostOf numberOf
+unfolding argumentOf mostOf numeralBy
 argument-most k w =
     let x = kindAmong numberKinds k in
     most-either (eqb k bytes) _ _ _ _ (most-when (isBytes w) 0 0 (λ h. omega arith))

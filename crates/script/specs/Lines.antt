@@ -70,10 +70,11 @@ entry = code "e"
 abbrev pub onOff : ℕ
 onOff = code "o"
 
--- the kinds that are numbers: letter, base, the most digits ("leading zeros are allowed": as many as a line has), and the largest number
+-- a kind of numbers: its letter, the base, the most digits, and the largest number
 abbrev kind : ℕ → ℕ → ℕ → ℕ → NumberKind
 kind k b d m = record { letter = k; base = b; digits = d; most = m }
 
+-- "a number above 4,294,967,295" is none, and "leading zeros are allowed": as many digits as a line has
 unfoldable pub numberKinds : List NumberKind
 numberKinds =
     kind decimal 10 8192 4294967295
@@ -170,8 +171,8 @@ unfoldable pub namedOf : List ℕ → List (List ℕ) → Number
 namedOf w names = cond (ltb (placeOf w names) (length names)) (Value (placeOf w names)) NoNumber
 
 -- the number that a word says
-unfoldable pub numberOf : NumberKind → List ℕ → Number
-numberOf x w = numeralOf (x .base) (x .digits) (x .most) w
+unfoldable pub numeralBy : NumberKind → List ℕ → Number
+numeralBy x w = numeralOf (x .base) (x .digits) (x .most) w
 
 -- what a word of a kind says; a byte string says 0, since its bytes are lent
 unfoldable pub argumentOf : ℕ → List ℕ → Number
@@ -179,7 +180,7 @@ argumentOf k w =
     cond (eqb k bytes) (cond (isBytes w) (Value 0) NoNumber)
     (cond (eqb k part) (namedOf w parts)
     (cond (eqb k entry) (namedOf w entries)
-    (cond (eqb k onOff) (namedOf w switches) (numberOf (kindAmong numberKinds k) w))))
+    (cond (eqb k onOff) (namedOf w switches) (numeralBy (kindAmong numberKinds k) w))))
 
 -- what word n behind the first says; 0 where the row has none
 unfoldable pub valueAt : List ℕ → List ℕ → ℕ → Number

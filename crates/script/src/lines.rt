@@ -3,7 +3,7 @@
 ghost use mathlib.Core.Path.{_≡_};
 ghost use Prim.Native.Nat.{_+_};
 ghost use Rattle.script.specs.Table.{columnOf};
-ghost use Rattle.script.specs.Lines.{numberKinds, kindAmong, numberOf, firstWords, otherKinds, namedOf, argumentOf, valueAt, threeOf, argumentsOf, partAt, entryAt, callAt, withoutCr, isSilent, lineOf};
+ghost use Rattle.script.specs.Lines.{numberKinds, kindAmong, numeralBy, firstWords, otherKinds, namedOf, argumentOf, valueAt, threeOf, argumentsOf, partAt, entryAt, callAt, withoutCr, isSilent, lineOf};
 use crate::bytes::is_bytes;
 use crate::command::Aside;
 use crate::command::Command;
@@ -238,7 +238,7 @@ fn number_kind(letter: u8) -> NumberKind
 }
 
 fn number(letter: u8, word: &[u8]) -> Number
-    ensures { λ r. ⌜ r ≡ numberOf (kindAmong numberKinds letter) (now (word .entry)) ⌝ }
+    ensures { λ r. ⌜ r ≡ numeralBy (kindAmong numberKinds letter) (now (word .entry)) ⌝ }
 {
     let kind = number_kind(letter);
     numbers::read(word, kind.base, kind.digits, kind.most)

@@ -1,6 +1,6 @@
 -- `script::lines::number` meets its contract.
 -- Assumes nothing.
-use Rattle.script.specs.Lines.{numberOf}
+use Rattle.script.specs.Lines.{numeralBy}
 use borrow.Author.Needs.{needs}
 use Rattle.script.proofs.lines.number.Statement.{statement}
 use Rattle.script.proofs.lines.number.Tie as tie
@@ -12,7 +12,7 @@ read-requires : tie.Need-read-requires
 read-requires c κs = search needs
 
 returns : tie.Need-returns
-unfolding numberOf
+unfolding numeralBy
 returns c = rw (← c .before .number-kind .ensures) (c .read .ensures)
 
 pub number-spec : {M : Type 1} → statement M
