@@ -30,7 +30,7 @@ use Rattle.host.specs.declared.Changed.{Changed}
 use Rattle.host.specs.Record.{recordOf, opened, openHost, openOf, settingAnswer, settingNumbers, putSetting, changedTo, settingOf, soundAnswer, powerLostOf}
 use Rattle.chip.specs.declared.Chip.{Chip}
 use Rattle.chip.specs.Chip.{chipOf, newChip, atResetOf, applyAll, feedAnswer, feedOf}
-use Rattle.capi.specs.Capi.{headerIn, settingsIn, imageIn, recordIn, recordBytes, chipIn, chipBytes, whenSized, settingNumber, settingBytes, chipNumber, chipAfter}
+use Rattle.capi.specs.Capi.{headerIn, settingsIn, imageIn, recordIn, recordBytes, recordSized, chipIn, chipBytes, whenSized, settingNumber, settingBytes, sizedNumbers, chipNumber, chipAfter}
 use Rattle.capi.specs.CapiLaws.{front, settings-stored, image-stored, record-sized, record-unsized, chip-sized, chip-unsized}
 
 -- ---- parts of a list
@@ -65,15 +65,33 @@ done : (bytes new : List ℕ) (x : Changed) (number : ℕ) → length bytes ≡ 
 unfolding settingNumber settingBytes whenSized
 done bytes new x number h en eb = (rw (record-sized bytes h) en, rw (record-sized bytes h) eb)
 
--- the number of a setting's answer fits where it is handed on
-module _ (r : Record) (q : Setting) (lent : List ℕ) (answer : Answer) (n : Numbers) (ea : answer ≡ settingAnswer r q lent)
-    (en : n ≡ numbersOf (settingNumbers r q lent)) where
-  pub setting-number : n .number ≡ answerNumber answer
-  unfolding settingNumbers numbersOf
-  setting-number = ap (λ (x : Numbers). x .number) en ∙ ap answerNumber (sym ea)
+-- a setting: its number and values, and the bytes that it leaves
+abbrev pub Set : List ℕ → Changed → Numbers → List ℕ → Type 0
+Set bytes x numbers new = (numbers ≡ sizedNumbers bytes x) × (new ≡ settingBytes bytes x)
 
-  pub number-fits : n .number < 2 ^ 32
-  number-fits = omega (arith, setting-number, answer-small answer)
+pub wrong-size-set : (bytes : List ℕ) (x : Changed) (number : ℕ) (numbers : Numbers) → (length bytes ≡ 1819 → ⊥) → number ≡ refusalNumber Unsound →
+    numbers ≡ numbersOf (number ∷ []) → Set bytes x numbers bytes
+unfolding sizedNumbers
+wrong-size-set bytes x number numbers n e en =
+    (en ∙ rw (record-unsized bytes n) (ap (λ (k : ℕ). numbersOf (k ∷ [])) e), wrong-size bytes x number n e .1)
+
+-- its number is the first of them, and fits where it is handed on
+module _ (bytes lent : List ℕ) (q : Setting) (numbers : Numbers) (en : numbers ≡ sizedNumbers bytes (settingOf (recordIn bytes) q lent)) where
+  abbrev x : Changed
+  x = settingOf (recordIn bytes) q lent
+
+  first-number : (b : Bool) → cond b (x .numbers) (numbersOf (refusalNumber Unsound ∷ [])) .number ≡ answerNumber (cond b (x .answer) (answers.the-variants.Refused Unsound))
+  unfolding settingOf changedTo settingNumbers numbersOf
+  first-number true = refl
+  first-number false = refl
+
+  pub set-number : numbers .number ≡ settingNumber bytes x
+  unfolding settingNumber sizedNumbers whenSized
+  set-number = ap (λ (y : Numbers). y .number) en ∙ first-number (recordSized bytes)
+
+  pub number-fits : numbers .number < 2 ^ 32
+  unfolding settingNumber
+  number-fits = omega (arith, set-number, answer-small (whenSized (recordSized bytes) (x .answer)))
 
 module _ (bytes : List ℕ) (h : length bytes ≡ 1819) where
   -- the settings, or the image, are stored where the call was accepted
@@ -90,23 +108,27 @@ module _ (bytes : List ℕ) (h : length bytes ≡ 1819) where
       ∙ sym (image-stored bytes h new)
   image-put false new = part-same 911 908 bytes
 
-  module _ (header : Header) (eh : header ≡ headerIn bytes) (answer : Answer) (number : ℕ) (en : number ≡ answerNumber answer) where
-    pub setting-done : (q : Setting) (lent part : List ℕ) → answer ≡ settingAnswer (recordOf header (settingsIn bytes) (imageIn bytes)) q lent →
+  -- a header that was read, and the answer to a call on the record that it makes with the two images
+  module _ (header : Header) (eh : header ≡ headerIn bytes) (answer : Answer) where
+    pub setting-done : (q : Setting) (lent part : List ℕ) (numbers : Numbers) → answer ≡ settingAnswer (recordOf header (settingsIn bytes) (imageIn bytes)) q lent →
+        numbers ≡ numbersOf (settingNumbers (recordOf header (settingsIn bytes) (imageIn bytes)) q lent) →
         part ≡ cond (accepted answer) (putSetting (settingsIn bytes) q lent) (settingsIn bytes) →
-        Done bytes (settingOf (recordIn bytes) q lent) number (putPart 3 908 bytes part)
-    unfolding recordIn settingOf changedTo
-    setting-done q lent part ea ep =
+        Set bytes (settingOf (recordIn bytes) q lent) numbers (putPart 3 908 bytes part)
+    unfolding recordIn settingOf changedTo sizedNumbers settingBytes whenSized
+    setting-done q lent part numbers ea en ep =
         let e : answer ≡ settingAnswer (recordOf (headerIn bytes) (settingsIn bytes) (imageIn bytes)) q lent =
-        ea ∙ ap (λ (x : Header). settingAnswer (recordOf x (settingsIn bytes) (imageIn bytes)) q lent) eh in
-        done bytes _ _ number h (en ∙ ap answerNumber e)
-        (ap (putPart 3 908 bytes) (ep ∙ ap (λ (x : Answer). cond (accepted x) (putSetting (settingsIn bytes) q lent) (settingsIn bytes)) e)
-        ∙ settings-put (accepted (settingAnswer (recordOf (headerIn bytes) (settingsIn bytes) (imageIn bytes)) q lent)) (putSetting (settingsIn bytes) q lent))
+        ea ∙ ap (λ (y : Header). settingAnswer (recordOf y (settingsIn bytes) (imageIn bytes)) q lent) eh in (
+          en ∙ rw (record-sized bytes h) (ap (λ (y : Header). numbersOf (settingNumbers (recordOf y (settingsIn bytes) (imageIn bytes)) q lent)) eh),
+          ap (putPart 3 908 bytes) (ep ∙ ap (λ (y : Answer). cond (accepted y) (putSetting (settingsIn bytes) q lent) (settingsIn bytes)) e)
+              ∙ rw (record-sized bytes h)
+              (settings-put (accepted (settingAnswer (recordOf (headerIn bytes) (settingsIn bytes) (imageIn bytes)) q lent)) (putSetting (settingsIn bytes) q lent)),
+        )
 
-    pub lost-done : (part : List ℕ) → answer ≡ soundAnswer (recordOf header (settingsIn bytes) (imageIn bytes)) →
+    pub lost-done : (number : ℕ) → number ≡ answerNumber answer → (part : List ℕ) → answer ≡ soundAnswer (recordOf header (settingsIn bytes) (imageIn bytes)) →
         part ≡ cond (accepted answer && eqb (length (imageIn bytes)) 908) (resetImage (header .member)) (imageIn bytes) →
         Done bytes (powerLostOf (recordIn bytes)) number (putPart 911 908 bytes part)
     unfolding recordIn powerLostOf
-    lost-done part ea ep =
+    lost-done number en part ea ep =
         let e : answer ≡ soundAnswer (recordOf (headerIn bytes) (settingsIn bytes) (imageIn bytes)) =
         ea ∙ ap (λ (x : Header). soundAnswer (recordOf x (settingsIn bytes) (imageIn bytes))) eh in
         let whole = eq-eqb (length (imageIn bytes)) 908 (part-length 911 908 bytes (omega arith)) in

@@ -5,13 +5,14 @@ use mathlib.Core.List.{List}
 use Prim.Native.Nat.{ℕ}
 use lib.ListN.{length}
 use Rattle.map.specs.declared.refusals.Answer.the-variants.{Accepted}
+use Rattle.map.specs.declared.refusals.Numbers.{Numbers}
 use Rattle.burst.specs.Burst.{placeOf}
 use Rattle.calls.specs.declared.Setting.{Setting}
 use Rattle.host.specs.Record.{openOf, settingOf, powerLostOf}
 use Rattle.host.specs.declared.Record.{Record}
 use Rattle.update.specs.Update.{Sending, sendOf, sendBuffer, updating, updateOf, resetting, clearingOpens, clearingShorts}
 use Rattle.chip.specs.Chip.{atResetOf, feedOf}
-use Rattle.capi.specs.Capi.{recordIn, chipIn, Outcome, settingOutcome, chipOutcome, listAnswer, neededAfter, ListOutcome, listOutcome, PlaceOutcome, placeOutcome}
+use Rattle.capi.specs.Capi.{recordIn, chipIn, Outcome, settingOutcome, sizedNumbers, chipOutcome, listAnswer, neededAfter, ListOutcome, listOutcome, PlaceOutcome, placeOutcome}
 
 -- ---- The record and its settings
 
@@ -22,6 +23,10 @@ openCall bytes m b p = settingOutcome bytes (openOf m b p)
 -- any setting: lp586x_register, lp586x_lamp, lp586x_group, lp586x_switch and lp586x_scene are one each
 abbrev pub settingCall : List ℕ → Setting → List ℕ → Outcome
 settingCall bytes q lent = settingOutcome bytes (settingOf (recordIn bytes) q lent)
+
+-- and the number and values that it answers
+abbrev pub settingNumbersCall : List ℕ → Setting → List ℕ → Numbers
+settingNumbersCall bytes q lent = sizedNumbers bytes (settingOf (recordIn bytes) q lent)
 
 -- lp586x_power_lost
 abbrev pub powerLostCall : List ℕ → Outcome

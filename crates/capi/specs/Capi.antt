@@ -9,7 +9,8 @@ use lib.ListN.{length, getD, take, drop}
 use Rattle.map.specs.declared.refusals.Answer.{Answer}
 use Rattle.map.specs.declared.refusals.Answer as answers
 use Rattle.map.specs.declared.refusals.Refusal.the-variants.{BufferShort, ListSizes, Unsound, NoTransaction}
-use Rattle.map.specs.Refusals.{refusalNumber, answerNumber, accepted}
+use Rattle.map.specs.declared.refusals.Numbers.{Numbers}
+use Rattle.map.specs.Refusals.{refusalNumber, answerNumber, numbersOf, accepted}
 use Rattle.burst.specs.declared.places.Place.{Place}
 use Rattle.burst.specs.declared.places.Place.the-variants.{At, BadSizes, NoIndex}
 use Rattle.host.specs.declared.Record.{Record}
@@ -87,6 +88,10 @@ settingBytes bytes x = cond (accepted (whenSized (recordSized bytes) (x .answer)
 -- a setting's outcome
 abbrev pub settingOutcome : List ℕ → Changed → Outcome
 settingOutcome bytes x = record { answer = settingNumber bytes x; bytes = settingBytes bytes x }
+
+-- "Every call answers 0 where it was accepted, or the number of its refusal": its number and values, 14 alone where the size is wrong
+unfoldable pub sizedNumbers : List ℕ → Changed → Numbers
+sizedNumbers bytes x = cond (recordSized bytes) (x .numbers) (numbersOf (refusalNumber Unsound ∷ []))
 
 -- the same number of a call on a chip
 unfoldable pub chipNumber : List ℕ → Answer → ℕ

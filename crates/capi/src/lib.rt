@@ -14,11 +14,12 @@ ghost use Rattle.map.specs.Refusals.{refusalNumber};
 ghost use Rattle.faults.specs.Faults.{answerNumbers, faultsAnswer, faultsResult};
 ghost use Rattle.host.specs.Record.{recordOf};
 ghost use Rattle.update.specs.Update.{updateAnswer, updateOf, updateBuffer};
-ghost use Rattle.capi.specs.Calls.{openCall, settingCall, powerLostCall, updateCall, updateNeeded, resetCall, clearOpensCall, clearShortsCall, transactionCall, chipAtResetCall, chipPowerLostCall, chipFeedCall};
+ghost use Rattle.capi.specs.Calls.{openCall, settingCall, settingNumbersCall, powerLostCall, updateCall, updateNeeded, resetCall, clearOpensCall, clearShortsCall, transactionCall, chipAtResetCall, chipPowerLostCall, chipFeedCall};
 use burst::Place;
 use calls::Setting;
 use host::Header;
 use map::Answer;
+use map::Numbers;
 use map::Refusal;
 use update::ListAnswer;
 
@@ -49,17 +50,25 @@ pub extern "C" fn lp586x_open(bytes: &mut [u8], member: u32, bus: u32, pins: u32
     }
 }
 
-// Any setting; a scene's bytes are lent.
+// Any setting, and the number and values that it answers; a scene's bytes are lent.
+pub fn set_numbers(bytes: &mut [u8], setting: Setting, lent: &[u8]) -> Numbers
+    ensures { λ r. ⌜ r ≡ settingNumbersCall (now (bytes .entry)) setting (now (lent .entry)) ⌝ }
+    ensures { λ _. ⌜ now (bytes .exit) ≡ settingCall (now (bytes .entry)) setting (now (lent .entry)) .bytes ⌝ }
+{
+    if bytes.len() != records::RECORD_SIZE {
+        return map::number_alone(wrong_size() as usize);
+    }
+    let header = records::header(bytes);
+    let answer = host::setting_answer(header, &bytes[3..911], &bytes[911..1819], setting, lent);
+    host::put_setting(answer, header, &mut bytes[3..911], setting, lent)
+}
+
+// Any setting, and its number alone.
 pub fn set(bytes: &mut [u8], setting: Setting, lent: &[u8]) -> u32
     ensures { λ r. ⌜ r ≡ settingCall (now (bytes .entry)) setting (now (lent .entry)) .answer ⌝ }
     ensures { λ _. ⌜ now (bytes .exit) ≡ settingCall (now (bytes .entry)) setting (now (lent .entry)) .bytes ⌝ }
 {
-    if bytes.len() != records::RECORD_SIZE {
-        return wrong_size();
-    }
-    let header = records::header(bytes);
-    let answer = host::setting_answer(header, &bytes[3..911], &bytes[911..1819], setting, lent);
-    let numbers = host::put_setting(answer, header, &mut bytes[3..911], setting, lent);
+    let numbers = set_numbers(bytes, setting, lent);
     numbers.number as u32
 }
 
