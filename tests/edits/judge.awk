@@ -105,7 +105,7 @@ function replace(file, old, new,    n, i, at, text, who) {
     at = index(text, old)
     line[file, place] = substr(text, 1, at - 1) new substr(text, at + length(old))
     if (file ~ /^specs\//) {
-        of_specs = 1
+        of_specs = defined[file] = 1
         return
     }
     if (file ~ /^src\//) of_src = 1
@@ -158,8 +158,13 @@ kind == "edit" && /^new:/ {
 # needs or steps were added or are gone, or since the check does not cover code of this form: a right version of another shape would be
 # refused as well.
 
+# A definition is refused by a law, an example or a proof that is refused for itself. A file that the edit changes must stand: a text that
+# is no definition breaks every law, and shows nothing.
+
 # What the error at `at` says, its further lines included
 function hear_error(    n, i) {
+    if (at in defined) ill = 1
+    else if (at != "" && said !~ /was not admitted/) broken = 1
     n = at == "" ? 0 : proved_in(at)
     for (i = 1; i <= n; i++)
         if (said ~ /was not admitted .*so this cannot be checked/) continue
@@ -175,12 +180,12 @@ kind == "log" && /^  / {
 
 kind == "log" { hear_error() }
 
-kind == "log" && /\/proofs\/.*\/Proof\.antt:[0-9]+:[0-9]+: error: / {
+kind == "log" && /\/(specs|proofs)\/.*\.antt:[0-9]+:[0-9]+: error: / {
     i = index($0, ": error: ")
     at = substr($0, 1, i - 1)
     said = substr($0, i + length(": error: "))
     sub(/:[0-9]+:[0-9]+$/, "", at)
-    sub(/^.*\/proofs\//, "proofs/", at)
+    sub(/^.*\/must-fail\/[^\/]*\/[^\/]*\//, "", at)
 }
 
 kind == "log" && (/^fn [^ ]+: not proved$/ || /^fn [^ ]+: no proof: .*`search` does not close/) {
@@ -197,6 +202,8 @@ END {
     if (!refused) hold("was not refused")
     if (of_specs && (of_src || version)) hold("an edit of specs/ stays alone, with no '# wrong' line")
     if (!of_specs && !of_src) hold("changes nothing of src/ or specs/")
+    if (of_specs && ill) hold("what the edit changes is itself refused")
+    else if (of_specs && !broken) hold("no law, example or proof is refused for itself")
     if (of_specs || !version) exit held
     for (pair in changes) {
         split(pair, part, SUBSEP)
