@@ -156,7 +156,10 @@ fn update_image<'a>(
     buffer: &mut [u8],
 ) -> ListAnswer
     ensures { λ r. ⌜ r ≡ updateAnswer (recordOf header (now (settings .entry)) (now (old .entry))) (length (now (buffer .entry))) ⌝ }
-    ensures { λ _. ⌜ (now (image .entry) ≡ now (old .entry) → now (image .exit) ≡ updateOf (recordOf header (now (settings .entry)) (now (old .entry))) (length (now (buffer .entry))) .host .image) ⌝ }
+    ensures { λ _. ⌜
+        (now (image .entry) ≡ now (old .entry) →
+        now (image .exit) ≡ updateOf (recordOf header (now (settings .entry)) (now (old .entry))) (length (now (buffer .entry))) .host .image)
+        ⌝ }
     ensures { λ _. ⌜ length (now (image .exit)) ≡ length (now (image .entry)) ⌝ }
     ensures { λ _. ⌜ now (buffer .exit) ≡ updateBuffer (recordOf header (now (settings .entry)) (now (old .entry))) (now (buffer .entry)) ⌝ }
 {

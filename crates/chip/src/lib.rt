@@ -55,7 +55,10 @@ pub fn at_reset(member: usize, bus: usize, pins: usize) -> Opened
 // A loss of power, on register bytes that are lent. A member above 4 has no reset values, and nothing changes; nor do other than
 // 908 bytes.
 pub fn lose_power(member: u8, registers: &mut [u8])
-    ensures { λ _. ⌜ now (registers .exit) ≡ cond (eqb (length (now (registers .entry))) 908) (powerLostOf (chipOf member 0 0 (now (registers .entry))) .registers) (now (registers .entry)) ⌝ }
+    ensures { λ _. ⌜
+        now (registers .exit) ≡
+        cond (eqb (length (now (registers .entry))) 908) (powerLostOf (chipOf member 0 0 (now (registers .entry))) .registers) (now (registers .entry))
+        ⌝ }
 {
     if member < 5 {
         images::put_reset(member as usize, registers);

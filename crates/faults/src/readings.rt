@@ -53,8 +53,14 @@ fn read_line(
     found: Found,
     result: &mut [u8],
 ) -> Found
-    requires { ⌜ (lines ≡ linesOf member) × (columns ≡ columnsOf member) × (line < 11) × (length (now bytes) ≡ 67) × (198 ≤ length (now result)) × (found .opens ≤ 18 * line) × (found .shorts ≤ 18 * line) ⌝ }
-    ensures { λ r. ⌜ ((old : List ℕ) → ReadTo member (now (bytes .entry)) old (now (result .entry)) (found .opens) (found .shorts) (18 * line) → ReadTo member (now (bytes .entry)) old (now (result .exit)) (r .opens) (r .shorts) (18 * line + 18)) ⌝ }
+    requires { ⌜
+        (lines ≡ linesOf member) × (columns ≡ columnsOf member) × (line < 11) × (length (now bytes) ≡ 67) × (198 ≤ length (now result))
+        × (found .opens ≤ 18 * line) × (found .shorts ≤ 18 * line)
+        ⌝ }
+    ensures { λ r. ⌜
+        ((old : List ℕ) → ReadTo member (now (bytes .entry)) old (now (result .entry)) (found .opens) (found .shorts) (18 * line) →
+        ReadTo member (now (bytes .entry)) old (now (result .exit)) (r .opens) (r .shorts) (18 * line + 18))
+        ⌝ }
 {
     let mut opens = found.opens;
     let mut shorts = found.shorts;

@@ -90,7 +90,11 @@ fn put_all(settings: &mut [u8], bytes: &[u8], n: usize)
 
 // A scene of the right length; any other puts nothing.
 pub(crate) fn put(settings: &mut [u8], bytes: &[u8])
-    ensures { λ _. ⌜ now (settings .exit) ≡ cond (sceneSized (now (bytes .entry))) (putScene (now (bytes .entry)) (now (settings .entry)) (sceneCount (now (bytes .entry)))) (now (settings .entry)) ⌝ }
+    ensures { λ _. ⌜
+        now (settings .exit) ≡
+        cond (sceneSized (now (bytes .entry))) (putScene (now (bytes .entry)) (now (settings .entry)) (sceneCount (now (bytes .entry))))
+        (now (settings .entry))
+        ⌝ }
 {
     if sized(bytes) {
         put_all(settings, bytes, word(bytes, 0));

@@ -76,8 +76,14 @@ pub fn put_setting(
     setting: Setting,
     lent: &[u8],
 ) -> Numbers
-    ensures { λ _. ⌜ ((image : List ℕ) → answer ≡ settingAnswer (recordOf header (now (settings .entry)) image) setting (now (lent .entry)) → now (settings .exit) ≡ cond (accepted answer) (putSetting (now (settings .entry)) setting (now (lent .entry))) (now (settings .entry))) ⌝ }
-    ensures { λ r. ⌜ ((image : List ℕ) → answer ≡ settingAnswer (recordOf header (now (settings .entry)) image) setting (now (lent .entry)) → r ≡ numbersOf (settingNumbers (recordOf header (now (settings .entry)) image) setting (now (lent .entry)))) ⌝ }
+    ensures { λ _. ⌜
+        ((image : List ℕ) → answer ≡ settingAnswer (recordOf header (now (settings .entry)) image) setting (now (lent .entry)) →
+        now (settings .exit) ≡ cond (accepted answer) (putSetting (now (settings .entry)) setting (now (lent .entry))) (now (settings .entry)))
+        ⌝ }
+    ensures { λ r. ⌜
+        ((image : List ℕ) → answer ≡ settingAnswer (recordOf header (now (settings .entry)) image) setting (now (lent .entry)) →
+        r ≡ numbersOf (settingNumbers (recordOf header (now (settings .entry)) image) setting (now (lent .entry))))
+        ⌝ }
 {
     let Answer::Accepted = answer else {
         return map::answer_numbers(answer);
@@ -117,8 +123,14 @@ pub(crate) fn put_own(
     setting: Setting,
     lent: &[u8],
 ) -> Numbers
-    ensures { λ _. ⌜ ((image : List ℕ) → answer ≡ settingAnswer (recordOf header (now (settings .entry)) image) setting (now (lent .entry)) → now (settings .exit) ≡ cond (accepted answer) (putSetting (now (settings .entry)) setting (now (lent .entry))) (now (settings .entry))) ⌝ }
-    ensures { λ r. ⌜ ((image : List ℕ) → answer ≡ settingAnswer (recordOf header (now (settings .entry)) image) setting (now (lent .entry)) → r ≡ numbersOf (settingNumbers (recordOf header (now (settings .entry)) image) setting (now (lent .entry)))) ⌝ }
+    ensures { λ _. ⌜
+        ((image : List ℕ) → answer ≡ settingAnswer (recordOf header (now (settings .entry)) image) setting (now (lent .entry)) →
+        now (settings .exit) ≡ cond (accepted answer) (putSetting (now (settings .entry)) setting (now (lent .entry))) (now (settings .entry)))
+        ⌝ }
+    ensures { λ r. ⌜
+        ((image : List ℕ) → answer ≡ settingAnswer (recordOf header (now (settings .entry)) image) setting (now (lent .entry)) →
+        r ≡ numbersOf (settingNumbers (recordOf header (now (settings .entry)) image) setting (now (lent .entry))))
+        ⌝ }
 {
     put_setting(answer, header, settings, setting, lent)
 }

@@ -54,7 +54,10 @@ fn put_transactions(
     n: usize,
 ) -> usize
     requires { ⌜ (n < 65536) × Rest (now list) (4 + 2 * n) (lengthsFrom (now list) 4 n) ⌝ }
-    ensures { λ r. ⌜ Puts (now (text .entry)) at (transactionsText (now (separator .entry)) bus (cutFrom (now (list .entry)) (4 + 2 * n) (lengthsFrom (now (list .entry)) 4 n))) (now (text .exit)) r ⌝ }
+    ensures { λ r. ⌜
+        Puts (now (text .entry)) at (transactionsText (now (separator .entry)) bus (cutFrom (now (list .entry)) (4 + 2 * n) (lengthsFrom (now (list .entry)) 4 n)))
+        (now (text .exit)) r
+        ⌝ }
 {
     let mut next = at;
     let mut from = 4 + 2 * n;

@@ -20,7 +20,10 @@ pub fn call(
     t: &mut u32,
     needed: &mut u32,
 ) -> u32
-    ensures { λ r. ⌜ stepped r (panelOf (now (host .exit)) (now (chip .exit))) (now (lent .exit)) (now (n .exit)) (now (t .exit)) (now (needed .exit)) ≡ panelStep (panelOf (now (host .entry)) (now (chip .entry))) request (now (lent .entry)) (now (n .entry)) (now (t .entry)) (now (needed .entry)) ⌝ }
+    ensures { λ r. ⌜
+        stepped r (panelOf (now (host .exit)) (now (chip .exit))) (now (lent .exit)) (now (n .exit)) (now (t .exit)) (now (needed .exit)) ≡
+        panelStep (panelOf (now (host .entry)) (now (chip .entry))) request (now (lent .entry)) (now (n .entry)) (now (t .entry)) (now (needed .entry))
+        ⌝ }
 {
     match request {
         Request::Set(setting) => capi::set(host, setting, lent),

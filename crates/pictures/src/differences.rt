@@ -51,7 +51,10 @@ fn put_registers(
     first: usize,
 ) -> usize
     requires { ⌜ (first < 908) × (differs member (now held) (now asked) first ≡ true) ⌝ }
-    ensures { λ r. ⌜ Puts (now (text .entry)) at (linesText (registerText (now (held .entry)) (now (asked .entry))) (differingFrom member (now (held .entry)) (now (asked .entry)) first)) (now (text .exit)) r ⌝ }
+    ensures { λ r. ⌜
+        Puts (now (text .entry)) at (linesText (registerText (now (held .entry)) (now (asked .entry))) (differingFrom member (now (held .entry)) (now (asked .entry)) first))
+        (now (text .exit)) r
+        ⌝ }
 {
     let mut next = put_register(text, at, held, asked, first);
     let mut address = first_difference(member, held, asked, first + 1);

@@ -49,7 +49,11 @@ fn send_command<'a>(
     spi: [u8; 9],
 ) -> ListAnswer
     ensures { λ r. ⌜ r ≡ commandAnswer (recordOf header (now (settings .entry)) (now (image .entry))) (length (now (buffer .entry))) ⌝ }
-    ensures { λ _. ⌜ ((a v : ℕ) (new : List ℕ) → i2c ≡ encode 0 0 (commandWrite a v) → spi ≡ encode 1 0 (commandWrite a v) → now (buffer .exit) ≡ sendBuffer (recordOf header (now (settings .entry)) (now (image .entry))) (command a v new) (now (buffer .entry))) ⌝ }
+    ensures { λ _. ⌜
+        ((a v : ℕ) (new : List ℕ) → i2c ≡ encode 0 0 (commandWrite a v) →
+        spi ≡ encode 1 0 (commandWrite a v) →
+        now (buffer .exit) ≡ sendBuffer (recordOf header (now (settings .entry)) (now (image .entry))) (command a v new) (now (buffer .entry)))
+        ⌝ }
 {
     if !host::sound_parts(header, settings, image) {
         return ListAnswer::Refused(Refusal::Unsound);

@@ -66,7 +66,11 @@ fn put_front(
     image: &mut [u8],
 )
     requires { ⌜ (first ≤ 1) × (n ≤ 909) ⌝ }
-    ensures { λ _. ⌜ now (buffer .exit) ≡ sets (sets (now (buffer .entry)) 0 ((sizeBytes n ++ sizeBytes t) ++ sizesBytes (transactionLengths (enableWrites first)))) (4 + 2 * n) (transactionBytes header (now (settings .entry)) (enableWrites first)) ⌝ }
+    ensures { λ _. ⌜
+        now (buffer .exit) ≡
+        sets (sets (now (buffer .entry)) 0 ((sizeBytes n ++ sizeBytes t) ++ sizesBytes (transactionLengths (enableWrites first))))
+        (4 + 2 * n) (transactionBytes header (now (settings .entry)) (enableWrites first))
+        ⌝ }
     ensures { λ _. ⌜ now (image .exit) ≡ storeWrites (now (settings .entry)) (enableWrites first) (now (image .entry)) ⌝ }
 {
     writes::put_header(buffer, n, t);
@@ -89,9 +93,19 @@ fn put_planned<'a>(
     old: &'a [u8],
     image: &mut [u8],
 )
-    requires { ⌜ Whole (now kinds) matrix (now settings) (now old) × (first ≤ 1) × (first ≤ n) × (n ≤ 909) × (n ≤ first + length (plan (marksOf (recordOf (matrix .header) (now settings) (now old))) 908)) ⌝ }
-    ensures { λ _. ⌜ now (buffer .exit) ≡ sets (sets (now (buffer .entry)) (4 + 2 * first) (sizesBytes (transactionLengths (planned (recordOf (matrix .header) (now (settings .entry)) (now (old .entry))) (n - first))))) (4 + 2 * n + 3 * first) (transactionBytes (matrix .header) (now (settings .entry)) (planned (recordOf (matrix .header) (now (settings .entry)) (now (old .entry))) (n - first))) ⌝ }
-    ensures { λ _. ⌜ now (image .exit) ≡ storeWrites (now (settings .entry)) (planned (recordOf (matrix .header) (now (settings .entry)) (now (old .entry))) (n - first)) (now (image .entry)) ⌝ }
+    requires { ⌜
+        Whole (now kinds) matrix (now settings) (now old) × (first ≤ 1) × (first ≤ n) × (n ≤ 909)
+        × (n ≤ first + length (plan (marksOf (recordOf (matrix .header) (now settings) (now old))) 908))
+        ⌝ }
+    ensures { λ _. ⌜
+        now (buffer .exit) ≡
+        sets (sets (now (buffer .entry)) (4 + 2 * first) (sizesBytes (transactionLengths (planned (recordOf (matrix .header) (now (settings .entry)) (now (old .entry))) (n - first)))))
+        (4 + 2 * n + 3 * first) (transactionBytes (matrix .header) (now (settings .entry)) (planned (recordOf (matrix .header) (now (settings .entry)) (now (old .entry))) (n - first)))
+        ⌝ }
+    ensures { λ _. ⌜
+        now (image .exit) ≡
+        storeWrites (now (settings .entry)) (planned (recordOf (matrix .header) (now (settings .entry)) (now (old .entry))) (n - first)) (now (image .entry))
+        ⌝ }
 {
     let mut from: usize = 1;
     let mut at = 4 + 2 * n + 3 * first;
@@ -120,8 +134,15 @@ fn put_list<'a>(
     image: &mut [u8],
 )
     requires { ⌜ Whole (now kinds) matrix (now settings) (now old) × ListSizes (recordOf (matrix .header) (now settings) (now old)) (size .first) (size .n) (size .t) ⌝ }
-    ensures { λ _. ⌜ now (buffer .exit) ≡ sets (now (buffer .entry)) 0 (writesBytes (matrix .header) (now (settings .entry)) (pending (recordOf (matrix .header) (now (settings .entry)) (now (old .entry))) (size .first))) ⌝ }
-    ensures { λ _. ⌜ now (image .exit) ≡ storeWrites (now (settings .entry)) (pending (recordOf (matrix .header) (now (settings .entry)) (now (old .entry))) (size .first)) (now (image .entry)) ⌝ }
+    ensures { λ _. ⌜
+        now (buffer .exit) ≡
+        sets (now (buffer .entry)) 0 (writesBytes (matrix .header) (now (settings .entry)) (pending (recordOf (matrix .header) (now (settings .entry)) (now (old .entry))) (size .first)))
+        ⌝ }
+    ensures { λ _. ⌜
+        now (image .exit) ≡
+        storeWrites (now (settings .entry)) (pending (recordOf (matrix .header) (now (settings .entry)) (now (old .entry))) (size .first))
+        (now (image .entry))
+        ⌝ }
 {
     let first = size.first;
     let n = size.n;
@@ -139,7 +160,10 @@ pub fn update_parts<'a>(
     buffer: &mut [u8],
 ) -> ListAnswer
     ensures { λ r. ⌜ r ≡ updateAnswer (recordOf header (now (settings .entry)) (now (old .entry))) (length (now (buffer .entry))) ⌝ }
-    ensures { λ _. ⌜ (now (image .entry) ≡ now (old .entry) → now (image .exit) ≡ updateOf (recordOf header (now (settings .entry)) (now (old .entry))) (length (now (buffer .entry))) .host .image) ⌝ }
+    ensures { λ _. ⌜
+        (now (image .entry) ≡ now (old .entry) →
+        now (image .exit) ≡ updateOf (recordOf header (now (settings .entry)) (now (old .entry))) (length (now (buffer .entry))) .host .image)
+        ⌝ }
     ensures { λ _. ⌜ now (buffer .exit) ≡ updateBuffer (recordOf header (now (settings .entry)) (now (old .entry))) (now (buffer .entry)) ⌝ }
 {
     if !host::sound_parts(header, settings, old) {

@@ -125,7 +125,11 @@ fn further<'a>(
     end: usize,
 ) -> usize
     requires { ⌜ (length (now settings) ≡ 908) × (length (now image) ≡ 908) × (0 < end) × (end < 908) × (getD (now settings) end 0 ≡ getD (now image) end 0) ⌝ }
-    ensures { λ r. ⌜ (end ≤ r) × (r ≤ 908) × (r < 908 → getD (now (settings .entry)) r 0 ≡ getD (now (image .entry)) r 0) × (Whole (now (kinds .entry)) matrix (now (settings .entry)) (now (image .entry)) → Further (marksOf (recordOf (matrix .header) (now (settings .entry)) (now (image .entry)))) end r) ⌝ }
+    ensures { λ r. ⌜
+        (end ≤ r) × (r ≤ 908) × (r < 908 → getD (now (settings .entry)) r 0 ≡ getD (now (image .entry)) r 0)
+        × (Whole (now (kinds .entry)) matrix (now (settings .entry)) (now (image .entry)) →
+        Further (marksOf (recordOf (matrix .header) (now (settings .entry)) (now (image .entry)))) end r)
+        ⌝ }
 {
     if differs(settings, image, end + 1) {
         if may_write(kinds, matrix, end) {
@@ -154,7 +158,10 @@ fn write_end<'a>(
     from: usize,
 ) -> usize
     requires { ⌜ (length (now settings) ≡ 908) × (length (now image) ≡ 908) × (0 < from) × (from ≤ 908) ⌝ }
-    ensures { λ r. ⌜ (from ≤ r) × (r ≤ 908) × (Whole (now (kinds .entry)) matrix (now (settings .entry)) (now (image .entry)) → WriteEnd (marksOf (recordOf (matrix .header) (now (settings .entry)) (now (image .entry)))) from r) ⌝ }
+    ensures { λ r. ⌜
+        (from ≤ r) × (r ≤ 908) × (Whole (now (kinds .entry)) matrix (now (settings .entry)) (now (image .entry)) →
+        WriteEnd (marksOf (recordOf (matrix .header) (now (settings .entry)) (now (image .entry)))) from r)
+        ⌝ }
 {
     let mut end = past_differing(settings, image, from);
     while end < 908 {
@@ -182,7 +189,10 @@ pub fn next_write<'a>(
     from: usize,
 ) -> Write
     ensures { λ r. ⌜ Placed from (r .start) (r .end) ⌝ }
-    ensures { λ r. ⌜ (Whole (now (kinds .entry)) matrix (now (settings .entry)) (now (image .entry)) → NextWrite (marksOf (recordOf (matrix .header) (now (settings .entry)) (now (image .entry)))) from (r .start) (r .end)) ⌝ }
+    ensures { λ r. ⌜
+        (Whole (now (kinds .entry)) matrix (now (settings .entry)) (now (image .entry)) →
+        NextWrite (marksOf (recordOf (matrix .header) (now (settings .entry)) (now (image .entry)))) from (r .start) (r .end))
+        ⌝ }
 {
     if settings.len() != 908 {
         return no_write();
@@ -229,7 +239,10 @@ pub struct Count {
 // All writes of the plan.
 pub fn count_writes<'a>(kinds: &[u8], matrix: Matrix, settings: &'a [u8], image: &'a [u8]) -> Count
     ensures { λ r. ⌜ Small (r .writes) (r .bytes) ⌝ }
-    ensures { λ r. ⌜ (Whole (now (kinds .entry)) matrix (now (settings .entry)) (now (image .entry)) → Counted (marksOf (recordOf (matrix .header) (now (settings .entry)) (now (image .entry)))) (r .writes) (r .bytes)) ⌝ }
+    ensures { λ r. ⌜
+        (Whole (now (kinds .entry)) matrix (now (settings .entry)) (now (image .entry)) →
+        Counted (marksOf (recordOf (matrix .header) (now (settings .entry)) (now (image .entry)))) (r .writes) (r .bytes))
+        ⌝ }
 {
     let mut writes: usize = 0;
     let mut bytes: usize = 0;

@@ -43,7 +43,10 @@ pub fn put_transaction(
     start: usize,
     len: usize,
 )
-    ensures { λ _. ⌜ now (buffer .exit) ≡ sets (now (buffer .entry)) at (transactionOf (header .bus) (header .pins) (dataOf (now (settings .entry)) (record { start = start; len = len }))) ⌝ }
+    ensures { λ _. ⌜
+        now (buffer .exit) ≡
+        sets (now (buffer .entry)) at (transactionOf (header .bus) (header .pins) (dataOf (now (settings .entry)) (record { start = start; len = len })))
+        ⌝ }
 {
     if buffer.len() <= at {
         return;
