@@ -30,7 +30,7 @@ use Rattle.host.specs.declared.Changed.{Changed}
 use Rattle.host.specs.Record.{recordOf, opened, openHost, openOf, settingAnswer, settingNumbers, putSetting, changedTo, settingOf, soundAnswer, powerLostOf}
 use Rattle.chip.specs.declared.Chip.{Chip}
 use Rattle.chip.specs.Chip.{chipOf, newChip, atResetOf, applyAll, feedAnswer, feedOf}
-use Rattle.capi.specs.Capi.{headerIn, settingsIn, imageIn, recordIn, recordBytes, recordSized, chipIn, chipBytes, whenSized, settingNumber, settingBytes, sizedNumbers, chipNumber, chipAfter}
+use Rattle.capi.specs.Capi.{headerIn, settingsAt, settingsIn, imageAt, imageIn, recordIn, recordBytes, recordSize, recordSized, registersAt, chipIn, chipBytes, chipSize, whenSized, settingNumber, settingBytes, sizedNumbers, chipNumber, chipAfter}
 use Rattle.capi.specs.CapiLaws.{front, settings-stored, image-stored, record-sized, record-unsized, chip-sized, chip-unsized}
 
 -- ---- parts of a list
@@ -55,12 +55,12 @@ part-length from k bytes h = take-length k (drop from bytes) (omega (arith, leng
 abbrev pub Done : List ℕ → Changed → ℕ → List ℕ → Type 0
 Done bytes x number new = (number ≡ settingNumber bytes x) × (new ≡ settingBytes bytes x)
 
-pub wrong-size : (bytes : List ℕ) (x : Changed) (number : ℕ) → (length bytes ≡ 1819 → ⊥) → number ≡ refusalNumber Unsound → Done bytes x number bytes
+pub wrong-size : (bytes : List ℕ) (x : Changed) (number : ℕ) → (length bytes ≡ recordSize → ⊥) → number ≡ refusalNumber Unsound → Done bytes x number bytes
 unfolding settingNumber settingBytes whenSized
 wrong-size bytes x number n e = (rw (record-unsized bytes n) e, rw (record-unsized bytes n) refl)
 
 -- a call that was made on bytes of the right size
-done : (bytes new : List ℕ) (x : Changed) (number : ℕ) → length bytes ≡ 1819 → number ≡ answerNumber (x .answer) →
+done : (bytes new : List ℕ) (x : Changed) (number : ℕ) → length bytes ≡ recordSize → number ≡ answerNumber (x .answer) →
     new ≡ cond (accepted (x .answer)) (recordBytes (x .host)) bytes → Done bytes x number new
 unfolding settingNumber settingBytes whenSized
 done bytes new x number h en eb = (rw (record-sized bytes h) en, rw (record-sized bytes h) eb)
@@ -69,7 +69,7 @@ done bytes new x number h en eb = (rw (record-sized bytes h) en, rw (record-size
 abbrev pub Set : List ℕ → Changed → Numbers → List ℕ → Type 0
 Set bytes x numbers new = (numbers ≡ sizedNumbers bytes x) × (new ≡ settingBytes bytes x)
 
-pub wrong-size-set : (bytes : List ℕ) (x : Changed) (number : ℕ) (numbers : Numbers) → (length bytes ≡ 1819 → ⊥) → number ≡ refusalNumber Unsound →
+pub wrong-size-set : (bytes : List ℕ) (x : Changed) (number : ℕ) (numbers : Numbers) → (length bytes ≡ recordSize → ⊥) → number ≡ refusalNumber Unsound →
     numbers ≡ numbersOf (number ∷ []) → Set bytes x numbers bytes
 unfolding sizedNumbers
 wrong-size-set bytes x number numbers n e en =
@@ -93,47 +93,47 @@ module _ (bytes lent : List ℕ) (q : Setting) (numbers : Numbers) (en : numbers
   unfolding settingNumber
   number-fits = omega (arith, set-number, answer-small (whenSized (recordSized bytes) (x .answer)))
 
-module _ (bytes : List ℕ) (h : length bytes ≡ 1819) where
+module _ (bytes : List ℕ) (h : length bytes ≡ recordSize) where
   -- the settings, or the image, are stored where the call was accepted
   settings-put : (b : Bool) (new : List ℕ) →
-      putPart 3 908 bytes (cond b new (settingsIn bytes)) ≡ cond b (recordBytes (recordOf (headerIn bytes) (cond b new (settingsIn bytes)) (imageIn bytes))) bytes
-  settings-put true new = ap (λ (l : List ℕ). take 3 bytes ++ (new ++ l)) (drop-drop 908 3 bytes) ∙ sym (settings-stored bytes h new)
-  settings-put false new = part-same 3 908 bytes
+      putPart settingsAt 908 bytes (cond b new (settingsIn bytes)) ≡ cond b (recordBytes (recordOf (headerIn bytes) (cond b new (settingsIn bytes)) (imageIn bytes))) bytes
+  settings-put true new = ap (λ (l : List ℕ). take settingsAt bytes ++ (new ++ l)) (drop-drop 908 settingsAt bytes) ∙ sym (settings-stored bytes h new)
+  settings-put false new = part-same settingsAt 908 bytes
 
   pub image-put : (b : Bool) (new : List ℕ) →
-      putPart 911 908 bytes (cond b new (imageIn bytes)) ≡ cond b (recordBytes (recordOf (headerIn bytes) (settingsIn bytes) (cond b new (imageIn bytes)))) bytes
+      putPart imageAt 908 bytes (cond b new (imageIn bytes)) ≡ cond b (recordBytes (recordOf (headerIn bytes) (settingsIn bytes) (cond b new (imageIn bytes)))) bytes
   image-put true new =
-      ap (λ (l : List ℕ). take 911 bytes ++ l)
-      (ap (λ (l : List ℕ). new ++ l) (drop-drop 908 911 bytes ∙ drop-of-length-le bytes {i = 1819} (omega arith)) ∙ append-nil new)
+      ap (λ (l : List ℕ). take imageAt bytes ++ l)
+      (ap (λ (l : List ℕ). new ++ l) (drop-drop 908 imageAt bytes ∙ drop-of-length-le bytes {i = recordSize} (omega arith)) ∙ append-nil new)
       ∙ sym (image-stored bytes h new)
-  image-put false new = part-same 911 908 bytes
+  image-put false new = part-same imageAt 908 bytes
 
   -- a header that was read, and the answer to a call on the record that it makes with the two images
   module _ (header : Header) (eh : header ≡ headerIn bytes) (answer : Answer) where
     pub setting-done : (q : Setting) (lent part : List ℕ) (numbers : Numbers) → answer ≡ settingAnswer (recordOf header (settingsIn bytes) (imageIn bytes)) q lent →
         numbers ≡ numbersOf (settingNumbers (recordOf header (settingsIn bytes) (imageIn bytes)) q lent) →
         part ≡ cond (accepted answer) (putSetting (settingsIn bytes) q lent) (settingsIn bytes) →
-        Set bytes (settingOf (recordIn bytes) q lent) numbers (putPart 3 908 bytes part)
+        Set bytes (settingOf (recordIn bytes) q lent) numbers (putPart settingsAt 908 bytes part)
     unfolding recordIn settingOf changedTo sizedNumbers settingBytes whenSized
     setting-done q lent part numbers ea en ep =
         let e : answer ≡ settingAnswer (recordOf (headerIn bytes) (settingsIn bytes) (imageIn bytes)) q lent =
         ea ∙ ap (λ (y : Header). settingAnswer (recordOf y (settingsIn bytes) (imageIn bytes)) q lent) eh in (
           en ∙ rw (record-sized bytes h) (ap (λ (y : Header). numbersOf (settingNumbers (recordOf y (settingsIn bytes) (imageIn bytes)) q lent)) eh),
-          ap (putPart 3 908 bytes) (ep ∙ ap (λ (y : Answer). cond (accepted y) (putSetting (settingsIn bytes) q lent) (settingsIn bytes)) e)
+          ap (putPart settingsAt 908 bytes) (ep ∙ ap (λ (y : Answer). cond (accepted y) (putSetting (settingsIn bytes) q lent) (settingsIn bytes)) e)
               ∙ rw (record-sized bytes h)
               (settings-put (accepted (settingAnswer (recordOf (headerIn bytes) (settingsIn bytes) (imageIn bytes)) q lent)) (putSetting (settingsIn bytes) q lent)),
         )
 
     pub lost-done : (number : ℕ) → number ≡ answerNumber answer → (part : List ℕ) → answer ≡ soundAnswer (recordOf header (settingsIn bytes) (imageIn bytes)) →
         part ≡ cond (accepted answer && eqb (length (imageIn bytes)) 908) (resetImage (header .member)) (imageIn bytes) →
-        Done bytes (powerLostOf (recordIn bytes)) number (putPart 911 908 bytes part)
+        Done bytes (powerLostOf (recordIn bytes)) number (putPart imageAt 908 bytes part)
     unfolding recordIn powerLostOf
     lost-done number en part ea ep =
         let e : answer ≡ soundAnswer (recordOf (headerIn bytes) (settingsIn bytes) (imageIn bytes)) =
         ea ∙ ap (λ (x : Header). soundAnswer (recordOf x (settingsIn bytes) (imageIn bytes))) eh in
-        let whole = eq-eqb (length (imageIn bytes)) 908 (part-length 911 908 bytes (omega arith)) in
+        let whole = eq-eqb (length (imageIn bytes)) 908 (part-length imageAt 908 bytes (omega arith)) in
         done bytes _ _ number h (en ∙ ap answerNumber e)
-        (ap (putPart 911 908 bytes)
+        (ap (putPart imageAt 908 bytes)
         (ep ∙ ap (λ (b : Bool). cond (accepted answer && b) (resetImage (header .member)) (imageIn bytes)) whole ∙ and-true (accepted answer)
         ∙ ap (λ (x : Header). cond (accepted answer) (resetImage (x .member)) (imageIn bytes)) eh
         ∙ ap (λ (x : Answer). cond (accepted x) (resetImage (headerIn bytes .member)) (imageIn bytes)) e)
@@ -150,7 +150,7 @@ unfolding opens
 opened-inside m b p answer e a =
     let o : opens m b p ≡ true = ap accepted (sym e ∙ a) in (opens-member m b p o, opens-bus m b p o, opens-pins m b p o)
 
-module _ (m b p : ℕ) (bytes : List ℕ) (answer : Answer) (e : answer ≡ openAnswer m b p) (h : length bytes ≡ 1819) where
+module _ (m b p : ℕ) (bytes : List ℕ) (answer : Answer) (e : answer ≡ openAnswer m b p) (h : length bytes ≡ recordSize) where
   pub open-refused : (x : Refusal) (number : ℕ) → answer ≡ answers.the-variants.Refused x → number ≡ refusalNumber x → Done bytes (openOf m b p) number bytes
   unfolding openOf
   open-refused x number a en =
@@ -196,48 +196,48 @@ reset-length : (m : ℕ) → length (resetImage m) ≡ 908
 unfolding resetImage
 reset-length m = table-length (resetOf m) 908
 
-module _ (m b p : ℕ) (bytes first : List ℕ) (e : first ≡ m ∷ b ∷ p ∷ drop 3 bytes) where
-  images-put : (n : ℕ) (part : List ℕ) → 911 ≤ n → length bytes ≡ n →
-      part ≡ cond (eqb (length (take 908 (drop 3 first))) 908) (resetImage m) (take 908 (drop 3 first)) →
-      Front n 911 ((m ∷ b ∷ p ∷ []) ++ resetImage m) (putPart 3 908 first part)
+module _ (m b p : ℕ) (bytes first : List ℕ) (e : first ≡ m ∷ b ∷ p ∷ drop settingsAt bytes) where
+  images-put : (n : ℕ) (part : List ℕ) → imageAt ≤ n → length bytes ≡ n →
+      part ≡ cond (eqb (length (take 908 (drop settingsAt first))) 908) (resetImage m) (take 908 (drop settingsAt first)) →
+      Front n imageAt ((m ∷ b ∷ p ∷ []) ++ resetImage m) (putPart settingsAt 908 first part)
   images-put n part l h ep =
       let f = front-first n m b p bytes first (omega arith) h e in
       front-more n 3 908 (m ∷ b ∷ p ∷ []) (resetImage m) first _ l (reset-length m) f
-      (ap (putPart 3 908 first) (reset-put m 3 first part (omega (arith, f .size)) ep))
+      (ap (putPart settingsAt 908 first) (reset-put m 3 first part (omega (arith, f .size)) ep))
 
-  pub chip-put : (part : List ℕ) → length bytes ≡ 911 →
-      part ≡ cond (eqb (length (take 908 (drop 3 first))) 908) (resetImage m) (take 908 (drop 3 first)) →
-      putPart 3 908 first part ≡ chipBytes (newChip m b p)
+  pub chip-put : (part : List ℕ) → length bytes ≡ chipSize →
+      part ≡ cond (eqb (length (take 908 (drop registersAt first))) 908) (resetImage m) (take 908 (drop registersAt first)) →
+      putPart registersAt 908 first part ≡ chipBytes (newChip m b p)
   unfolding chipBytes newChip
-  chip-put part h ep = front-all 911 _ _ (images-put 911 part (omega arith) h ep)
+  chip-put part h ep = front-all chipSize _ _ (images-put chipSize part (omega arith) h ep)
 
-  pub record-put : (part last : List ℕ) → length bytes ≡ 1819 →
-      part ≡ cond (eqb (length (take 908 (drop 3 first))) 908) (resetImage m) (take 908 (drop 3 first)) →
-      last ≡ cond (eqb (length (take 908 (drop 911 (putPart 3 908 first part)))) 908) (resetImage m) (take 908 (drop 911 (putPart 3 908 first part))) →
-      putPart 911 908 (putPart 3 908 first part) last ≡ recordBytes (opened m b p)
+  pub record-put : (part last : List ℕ) → length bytes ≡ recordSize →
+      part ≡ cond (eqb (length (take 908 (drop settingsAt first))) 908) (resetImage m) (take 908 (drop settingsAt first)) →
+      last ≡ cond (eqb (length (take 908 (drop imageAt (putPart settingsAt 908 first part)))) 908) (resetImage m) (take 908 (drop imageAt (putPart settingsAt 908 first part))) →
+      putPart imageAt 908 (putPart settingsAt 908 first part) last ≡ recordBytes (opened m b p)
   unfolding recordBytes opened
   record-put part last h ep el =
-      let f = images-put 1819 part (omega arith) h ep in
-      front-all 1819 _ _
-      (front-more 1819 911 908 ((m ∷ b ∷ p ∷ []) ++ resetImage m) (resetImage m) (putPart 3 908 first part) _ (omega arith) (reset-length m) f
-      (ap (putPart 911 908 (putPart 3 908 first part)) (reset-put m 911 (putPart 3 908 first part) last (omega (arith, f .size)) el)))
+      let f = images-put recordSize part (omega arith) h ep in
+      front-all recordSize _ _
+      (front-more recordSize imageAt 908 ((m ∷ b ∷ p ∷ []) ++ resetImage m) (resetImage m) (putPart settingsAt 908 first part) _ (omega arith) (reset-length m) f
+      (ap (putPart imageAt 908 (putPart settingsAt 908 first part)) (reset-put m imageAt (putPart settingsAt 908 first part) last (omega (arith, f .size)) el)))
 
 -- ---- chips
 
 abbrev pub ChipDone : List ℕ → Answer → Chip → ℕ → List ℕ → Type 0
 ChipDone bytes answer c number new = (number ≡ chipNumber bytes answer) × (new ≡ chipAfter bytes answer c)
 
-pub chip-wrong-size : (bytes : List ℕ) (answer : Answer) (c : Chip) (number : ℕ) → (length bytes ≡ 911 → ⊥) → number ≡ refusalNumber Unsound →
+pub chip-wrong-size : (bytes : List ℕ) (answer : Answer) (c : Chip) (number : ℕ) → (length bytes ≡ chipSize → ⊥) → number ≡ refusalNumber Unsound →
     ChipDone bytes answer c number bytes
 unfolding chipNumber chipAfter whenSized
 chip-wrong-size bytes answer c number n e = (rw (chip-unsized bytes n) e, rw (chip-unsized bytes n) refl)
 
-chip-done : (bytes new : List ℕ) (answer : Answer) (c : Chip) (number : ℕ) → length bytes ≡ 911 → number ≡ answerNumber answer →
+chip-done : (bytes new : List ℕ) (answer : Answer) (c : Chip) (number : ℕ) → length bytes ≡ chipSize → number ≡ answerNumber answer →
     new ≡ cond (accepted answer) (chipBytes c) bytes → ChipDone bytes answer c number new
 unfolding chipNumber chipAfter whenSized
 chip-done bytes new answer c number h en eb = (rw (chip-sized bytes h) en, rw (chip-sized bytes h) eb)
 
-module _ (m b p : ℕ) (bytes : List ℕ) (answer : Answer) (e : answer ≡ openAnswer m b p) (h : length bytes ≡ 911) where
+module _ (m b p : ℕ) (bytes : List ℕ) (answer : Answer) (e : answer ≡ openAnswer m b p) (h : length bytes ≡ chipSize) where
   pub at-reset-refused : (x : Refusal) (number : ℕ) → answer ≡ answers.the-variants.Refused x → number ≡ refusalNumber x →
       ChipDone bytes (atResetOf m b p .answer) (atResetOf m b p .chip) number bytes
   unfolding atResetOf
@@ -252,42 +252,42 @@ module _ (m b p : ℕ) (bytes : List ℕ) (answer : Answer) (e : answer ≡ open
       let q : openAnswer m b p ≡ answers.the-variants.Accepted = sym e ∙ a in
       chip-done bytes new (atResetOf m b p .answer) (atResetOf m b p .chip) 0 h (rw q refl) (rw q en)
 
-module _ (bytes : List ℕ) (h : length bytes ≡ 911) where
+module _ (bytes : List ℕ) (h : length bytes ≡ chipSize) where
   -- the registers are stored behind the front
   registers-put : (registers : List ℕ) →
-      putPart 3 908 bytes registers ≡ chipBytes (chipOf (getD bytes 0 0) (getD bytes 1 0) (getD bytes 2 0) registers)
+      putPart registersAt 908 bytes registers ≡ chipBytes (chipOf (getD bytes 0 0) (getD bytes 1 0) (getD bytes 2 0) registers)
   unfolding chipBytes
   registers-put registers =
-      ap (λ (l : List ℕ). take 3 bytes ++ l)
-      (ap (λ (l : List ℕ). registers ++ l) (drop-drop 908 3 bytes ∙ drop-of-length-le bytes {i = 911} (omega arith)) ∙ append-nil registers)
+      ap (λ (l : List ℕ). take registersAt bytes ++ l)
+      (ap (λ (l : List ℕ). registers ++ l) (drop-drop 908 registersAt bytes ∙ drop-of-length-le bytes {i = chipSize} (omega arith)) ∙ append-nil registers)
       ∙ front bytes registers (omega arith)
 
   pub chip-lost-done : (part : List ℕ) →
-      part ≡ cond (eqb (length (take 908 (drop 3 bytes))) 908) (Rattle.chip.specs.Chip.powerLostOf (chipOf (getD bytes 0 0) 0 0 (take 908 (drop 3 bytes))) .registers) (take 908 (drop 3 bytes)) →
-      ChipDone bytes answers.the-variants.Accepted (Rattle.chip.specs.Chip.powerLostOf (chipIn bytes)) 0 (putPart 3 908 bytes part)
+      part ≡ cond (eqb (length (take 908 (drop registersAt bytes))) 908) (Rattle.chip.specs.Chip.powerLostOf (chipOf (getD bytes 0 0) 0 0 (take 908 (drop registersAt bytes))) .registers) (take 908 (drop registersAt bytes)) →
+      ChipDone bytes answers.the-variants.Accepted (Rattle.chip.specs.Chip.powerLostOf (chipIn bytes)) 0 (putPart registersAt 908 bytes part)
   unfolding chipIn Rattle.chip.specs.Chip.powerLostOf
   chip-lost-done part e =
-      let lost : List ℕ = cond (ltb (getD bytes 0 0) 5) (resetImage (getD bytes 0 0)) (take 908 (drop 3 bytes)) in
-      let whole : part ≡ lost = e ∙ ap (λ (b : Bool). cond b lost (take 908 (drop 3 bytes))) (eq-eqb (length (take 908 (drop 3 bytes))) 908 (part-length 3 908 bytes (omega arith))) in
-      chip-done bytes _ answers.the-variants.Accepted _ 0 h refl (ap (putPart 3 908 bytes) whole ∙ registers-put lost)
+      let lost : List ℕ = cond (ltb (getD bytes 0 0) 5) (resetImage (getD bytes 0 0)) (take 908 (drop registersAt bytes)) in
+      let whole : part ≡ lost = e ∙ ap (λ (b : Bool). cond b lost (take 908 (drop registersAt bytes))) (eq-eqb (length (take 908 (drop registersAt bytes))) 908 (part-length registersAt 908 bytes (omega arith))) in
+      chip-done bytes _ answers.the-variants.Accepted _ 0 h refl (ap (putPart registersAt 908 bytes) whole ∙ registers-put lost)
 
   pub feed-done : (list part : List ℕ) (answer : Answer) (number : ℕ) →
-      answer ≡ feedAnswer (chipOf (getD bytes 0 0) (getD bytes 1 0) (getD bytes 2 0) (take 908 (drop 3 bytes))) list →
-      part ≡ feedOf (chipOf (getD bytes 0 0) (getD bytes 1 0) (getD bytes 2 0) (take 908 (drop 3 bytes))) list .chip .registers →
+      answer ≡ feedAnswer (chipOf (getD bytes 0 0) (getD bytes 1 0) (getD bytes 2 0) (take 908 (drop registersAt bytes))) list →
+      part ≡ feedOf (chipOf (getD bytes 0 0) (getD bytes 1 0) (getD bytes 2 0) (take 908 (drop registersAt bytes))) list .chip .registers →
       number ≡ answerNumber answer →
-      ChipDone bytes (feedOf (chipIn bytes) list .answer) (feedOf (chipIn bytes) list .chip) number (putPart 3 908 bytes part)
+      ChipDone bytes (feedOf (chipIn bytes) list .answer) (feedOf (chipIn bytes) list .chip) number (putPart registersAt 908 bytes part)
   unfolding chipIn feedOf
   feed-done list part answer number ea ep en =
       chip-done bytes _ _ _ number h (en ∙ ap answerNumber ea)
-      (ap (putPart 3 908 bytes) ep ∙ kept (accepted (feedAnswer c list)) (applyAll (c .member) (c .bus) (c .pins) (c .registers) (transactions list)))
+      (ap (putPart registersAt 908 bytes) ep ∙ kept (accepted (feedAnswer c list)) (applyAll (c .member) (c .bus) (c .pins) (c .registers) (transactions list)))
     where
       c : Chip
-      c = chipOf (getD bytes 0 0) (getD bytes 1 0) (getD bytes 2 0) (take 908 (drop 3 bytes))
+      c = chipOf (getD bytes 0 0) (getD bytes 1 0) (getD bytes 2 0) (take 908 (drop registersAt bytes))
 
-      kept : (t : Bool) (new : List ℕ) → putPart 3 908 bytes (cond t new (take 908 (drop 3 bytes))) ≡
-          cond t (chipBytes (chipOf (getD bytes 0 0) (getD bytes 1 0) (getD bytes 2 0) (cond t new (take 908 (drop 3 bytes))))) bytes
+      kept : (t : Bool) (new : List ℕ) → putPart registersAt 908 bytes (cond t new (take 908 (drop registersAt bytes))) ≡
+          cond t (chipBytes (chipOf (getD bytes 0 0) (getD bytes 1 0) (getD bytes 2 0) (cond t new (take 908 (drop registersAt bytes))))) bytes
       kept true new = registers-put new
-      kept false new = part-same 3 908 bytes
+      kept false new = part-same registersAt 908 bytes
 
 -- ---- faults
 

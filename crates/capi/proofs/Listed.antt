@@ -25,7 +25,7 @@ use Rattle.update.specs.declared.ListAnswer.the-variants.{Listed, Short, Refuse
 use Rattle.update.specs.Update.{isListed, listNumber, listSize, Sending, sendAnswer, sendOf, sendBuffer, writesOf, updateAnswer, command, resetting, commandAnswer}
 use Rattle.update.specs.SendLaws.{command-answers}
 use Rattle.update.specs.BoundLaws.{bus-most, writes-few, size-most}
-use Rattle.capi.specs.Capi.{headerIn, settingsIn, imageIn, recordIn, recordBytes, listAnswer, listBytes, bufferAfter, stored, nAfter, tAfter, neededAfter, Fits, placeNumbers}
+use Rattle.capi.specs.Capi.{headerIn, settingsIn, imageAt, imageIn, recordIn, recordBytes, recordSize, listAnswer, listBytes, bufferAfter, stored, nAfter, tAfter, neededAfter, Fits, placeNumbers}
 use Rattle.capi.specs.Calls.{transactionCall}
 use Rattle.capi.specs.CapiLaws.{image-stored, record-sized, refused-stores}
 use Rattle.capi.proofs.InPlace.{putPart, part-length, image-put}
@@ -64,7 +64,7 @@ as-command r a v image size answer e = e ∙ sym (command-answers r a v image si
 
 -- ---- a call that sends, on bytes of the right size
 
-module _ (f : Record → Sending) (bytes : List ℕ) (h : length bytes ≡ 1819) (header : Header) (eh : header ≡ headerIn bytes) (buffer : List ℕ) (answer : ListAnswer) where
+module _ (f : Record → Sending) (bytes : List ℕ) (h : length bytes ≡ recordSize) (header : Header) (eh : header ≡ headerIn bytes) (buffer : List ℕ) (answer : ListAnswer) where
   -- the record, by its parts
   abbrev held : Header → Record
   held x = recordOf x (settingsIn bytes) (imageIn bytes)
@@ -90,27 +90,27 @@ module _ (f : Record → Sending) (bytes : List ℕ) (h : length bytes ≡ 1819)
 
     -- an image of the caller's own was changed, and then stored where a list was written
     pub copied-back : (image new : List ℕ) → image ≡ sendOf (held header) (f (held header)) (length buffer) .host .image →
-        new ≡ cond (isListed answer) (take 911 bytes ++ image) bytes → new ≡ listBytes bytes (sendOf (recordIn bytes) (f (recordIn bytes)) (length buffer))
+        new ≡ cond (isListed answer) (take imageAt bytes ++ image) bytes → new ≡ listBytes bytes (sendOf (recordIn bytes) (f (recordIn bytes)) (length buffer))
     unfolding sendOf recordIn
     copied-back image new ei en =
-        en ∙ ap (λ (l : List ℕ). cond (isListed answer) (take 911 bytes ++ l) bytes)
+        en ∙ ap (λ (l : List ℕ). cond (isListed answer) (take imageAt bytes ++ l) bytes)
         (ei ∙ ap (λ (x : Header). cond (isListed (sendAnswer (held x) (f (held x)) (length buffer))) (f (held x) .image) (imageIn bytes)) eh
         ∙ ap (λ (x : ListAnswer). cond (isListed x) (f (recordIn bytes) .image) (imageIn bytes)) (sym answers))
         ∙ choice (isListed answer) (cond (isListed answer) (f (recordIn bytes) .image) (imageIn bytes)) ∙ sym sent
       where
-        choice : (b : Bool) (l : List ℕ) → cond b (take 911 bytes ++ l) bytes ≡ cond b (recordBytes (recordOf (headerIn bytes) (settingsIn bytes) l)) bytes
+        choice : (b : Bool) (l : List ℕ) → cond b (take imageAt bytes ++ l) bytes ≡ cond b (recordBytes (recordOf (headerIn bytes) (settingsIn bytes) l)) bytes
         choice true l = sym (image-stored bytes h l)
         choice false l = refl
 
 -- a Reset puts its image into its part of the bytes
-pub reset-back : (bytes : List ℕ) (h : length bytes ≡ 1819) (header : Header) (eh : header ≡ headerIn bytes) (buffer part : List ℕ) (answer : ListAnswer) →
+pub reset-back : (bytes : List ℕ) (h : length bytes ≡ recordSize) (header : Header) (eh : header ≡ headerIn bytes) (buffer part : List ℕ) (answer : ListAnswer) →
     (ea : answer ≡ commandAnswer (recordOf header (settingsIn bytes) (imageIn bytes)) (length buffer)) →
     part ≡ cond (isListed answer && eqb (length (imageIn bytes)) 908) (resetImage (header .member)) (imageIn bytes) →
-    putPart 911 908 bytes part ≡ listBytes bytes (sendOf (recordIn bytes) (resetting (recordIn bytes)) (length buffer))
+    putPart imageAt 908 bytes part ≡ listBytes bytes (sendOf (recordIn bytes) (resetting (recordIn bytes)) (length buffer))
 unfolding recordIn
 reset-back bytes h header eh buffer part answer ea ep =
-    ap (putPart 911 908 bytes)
-    (ep ∙ ap (λ (b : Bool). cond (isListed answer && b) (resetImage (header .member)) (imageIn bytes)) (eq-eqb (length (imageIn bytes)) 908 (part-length 911 908 bytes (omega arith)))
+    ap (putPart imageAt 908 bytes)
+    (ep ∙ ap (λ (b : Bool). cond (isListed answer && b) (resetImage (header .member)) (imageIn bytes)) (eq-eqb (length (imageIn bytes)) 908 (part-length imageAt 908 bytes (omega arith)))
     ∙ whole (isListed answer) ∙ ap (λ (x : Header). cond (isListed answer) (resetImage (x .member)) (imageIn bytes)) eh)
     ∙ image-put bytes h (isListed answer) (resetImage (headerIn bytes .member))
     ∙ sym (sent resetting bytes h header eh buffer answer ea)

@@ -23,7 +23,7 @@ use Rattle.update.specs.Update.{isListed, listNumber, Sending, sendAnswer, send
 use Rattle.update.specs.SendLaws.{answered, host-kept, buffer-kept, answer-of, clear-leaves}
 use Rattle.chip.specs.declared.Chip.{Chip}
 use Rattle.chip.specs.Chip.{atResetOf, feedOf}
-use Rattle.capi.specs.Capi.{recordIn, recordBytes, chipBytes, recordSized, chipSized, whenSized, Outcome, settingNumber, settingBytes, settingOutcome, chipNumber, chipAfter, chipOutcome, listAnswer, listBytes, bufferAfter, stored, nAfter, tAfter, ListOutcome, listOutcome}
+use Rattle.capi.specs.Capi.{recordIn, recordBytes, chipBytes, recordSize, recordSized, chipSized, whenSized, Outcome, settingNumber, settingBytes, settingOutcome, chipNumber, chipAfter, chipOutcome, listAnswer, listBytes, bufferAfter, stored, nAfter, tAfter, ListOutcome, listOutcome}
 use Rattle.capi.specs.CapiLaws.{record-round, record-back, chip-back, record-sized, chip-sized, record-length, chip-length, zero-accepted, zero-listed, list-keeps, bytes-keep}
 use Rattle.capi.specs.Calls.{openCall, settingCall, powerLostCall, sendCall, chipAtResetCall, chipPowerLostCall, chipFeedCall}
 
@@ -106,7 +106,7 @@ module _ (r : Record) (hs : length (r .settings) ≡ 908) (hi : length (r .image
       (λ e. host-kept r (f r) (length buffer) (sym (ap isListed (answer-of r (f r) (length buffer))) ∙ e))
 
 -- the Clears leave the record's bytes, which they only read
-pub clear-bytes : (bytes : List ℕ) (size : ℕ) → length bytes ≡ 1819 → listBytes bytes (clearOf (recordIn bytes) size) ≡ bytes
+pub clear-bytes : (bytes : List ℕ) (size : ℕ) → length bytes ≡ recordSize → listBytes bytes (clearOf (recordIn bytes) size) ≡ bytes
 unfolding listBytes
 clear-bytes bytes size h =
     go (isListed (listAnswer bytes (clearOf (recordIn bytes) size)))

@@ -30,13 +30,19 @@ use Rattle.chip.specs.Chip.{chipOf}
 unfoldable pub headerIn : List ℕ → Header
 headerIn bytes = headerOf (getD bytes 0 0) (getD bytes 1 0) (getD bytes 2 0)
 
--- "908 settings,"
-abbrev pub settingsIn : List ℕ → List ℕ
-settingsIn bytes = take 908 (drop 3 bytes)
+-- "908 settings,": where they begin, behind these three
+abbrev pub settingsAt : ℕ
+settingsAt = 3
 
--- "908 of the chip as the host believes it."
+abbrev pub settingsIn : List ℕ → List ℕ
+settingsIn bytes = take 908 (drop settingsAt bytes)
+
+-- "908 of the chip as the host believes it.": where they begin
+abbrev pub imageAt : ℕ
+imageAt = 911
+
 abbrev pub imageIn : List ℕ → List ℕ
-imageIn bytes = take 908 (drop 911 bytes)
+imageIn bytes = take 908 (drop imageAt bytes)
 
 -- the record that the bytes hold
 unfoldable pub recordIn : List ℕ → Record
@@ -50,21 +56,30 @@ headerBytes h = h .member ∷ h .bus ∷ h .pins ∷ []
 unfoldable pub recordBytes : Record → List ℕ
 recordBytes r = headerBytes (r .header) ++ (r .settings ++ r .image)
 
--- "Of a chip: member, bus, pins, 908 registers."
+-- "Of a chip: member, bus, pins, 908 registers.": where these begin
+abbrev pub registersAt : ℕ
+registersAt = 3
+
 unfoldable pub chipIn : List ℕ → Chip
-chipIn bytes = chipOf (getD bytes 0 0) (getD bytes 1 0) (getD bytes 2 0) (take 908 (drop 3 bytes))
+chipIn bytes = chipOf (getD bytes 0 0) (getD bytes 1 0) (getD bytes 2 0) (take 908 (drop registersAt bytes))
 
 -- the bytes of a chip, in the same order
 unfoldable pub chipBytes : Chip → List ℕ
 chipBytes c = c .member ∷ c .bus ∷ c .pins ∷ c .registers
 
 -- "A record is LP586X_RECORD_SIZE bytes in the caller's memory,"
+abbrev pub recordSize : ℕ
+recordSize = 1819
+
 unfoldable pub recordSized : List ℕ → Bool
-recordSized bytes = eqb (length bytes) 1819
+recordSized bytes = eqb (length bytes) recordSize
 
 -- "a chip of the model LP586X_CHIP_SIZE"
+abbrev pub chipSize : ℕ
+chipSize = 911
+
 unfoldable pub chipSized : List ℕ → Bool
-chipSized bytes = eqb (length bytes) 911
+chipSized bytes = eqb (length bytes) chipSize
 
 -- ---- Calls that answer a number alone
 

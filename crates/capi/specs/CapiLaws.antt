@@ -24,7 +24,7 @@ use Rattle.update.specs.Update.{isListed, listNumber}
 use Rattle.chip.specs.declared.Chip.{Chip}
 use Rattle.chip.specs.Chip.{chipOf}
 use Rattle.faults.specs.Faults.{answered, answerNumbers, faultsChecked, faultsAnswer, faultsResult, opensAgree, shortsAgree}
-use Rattle.capi.specs.Capi.{headerIn, settingsIn, imageIn, recordIn, recordBytes, chipIn, chipBytes, recordSized, chipSized, whenSized, settingNumber, settingBytes, chipNumber, chipAfter, listAnswer, listBytes, stored, nAfter, tAfter, neededAfter}
+use Rattle.capi.specs.Capi.{headerIn, settingsAt, settingsIn, imageAt, imageIn, recordIn, recordBytes, registersAt, chipIn, chipBytes, recordSize, recordSized, chipSize, chipSized, whenSized, settingNumber, settingBytes, chipNumber, chipAfter, listAnswer, listBytes, stored, nAfter, tAfter, neededAfter}
 
 -- ---- the bytes read back
 
@@ -36,26 +36,26 @@ front (m ∷ b ∷ []) l h = absurd (omega arith)
 front (m ∷ b ∷ p ∷ rest) l h = refl
 
 -- they and the settings
-front-settings : (bytes : List ℕ) → 3 ≤ length bytes → take 911 bytes ≡ take 3 bytes ++ take 908 (drop 3 bytes)
+front-settings : (bytes : List ℕ) → 3 ≤ length bytes → take imageAt bytes ≡ take settingsAt bytes ++ take 908 (drop settingsAt bytes)
 front-settings [] h = absurd (omega arith)
 front-settings (m ∷ []) h = absurd (omega arith)
 front-settings (m ∷ b ∷ []) h = absurd (omega arith)
 front-settings (m ∷ b ∷ p ∷ rest) h = refl
 
-module _ (bytes : List ℕ) (h : length bytes ≡ 1819) where
+module _ (bytes : List ℕ) (h : length bytes ≡ recordSize) where
   -- the record that the bytes hold, with other settings: only their part of the bytes is another
-  pub settings-stored : (settings : List ℕ) → recordBytes (recordOf (headerIn bytes) settings (imageIn bytes)) ≡ take 3 bytes ++ (settings ++ drop 911 bytes)
+  pub settings-stored : (settings : List ℕ) → recordBytes (recordOf (headerIn bytes) settings (imageIn bytes)) ≡ take settingsAt bytes ++ (settings ++ drop imageAt bytes)
   unfolding headerIn recordBytes
   settings-stored settings =
-      ap (λ (l : List ℕ). getD bytes 0 0 ∷ getD bytes 1 0 ∷ getD bytes 2 0 ∷ settings ++ l) (take-all 908 (drop 911 bytes) (omega (arith, length-drop 911 bytes)))
-      ∙ sym (front bytes (settings ++ drop 911 bytes) (omega arith))
+      ap (λ (l : List ℕ). getD bytes 0 0 ∷ getD bytes 1 0 ∷ getD bytes 2 0 ∷ settings ++ l) (take-all 908 (drop imageAt bytes) (omega (arith, length-drop imageAt bytes)))
+      ∙ sym (front bytes (settings ++ drop imageAt bytes) (omega arith))
 
   -- with another image
-  pub image-stored : (image : List ℕ) → recordBytes (recordOf (headerIn bytes) (settingsIn bytes) image) ≡ take 911 bytes ++ image
+  pub image-stored : (image : List ℕ) → recordBytes (recordOf (headerIn bytes) (settingsIn bytes) image) ≡ take imageAt bytes ++ image
   unfolding headerIn recordBytes
   image-stored image =
       sym (front bytes (settingsIn bytes ++ image) (omega arith))
-      ∙ sym (append-assoc (take 3 bytes) (settingsIn bytes) image)
+      ∙ sym (append-assoc (take settingsAt bytes) (settingsIn bytes) image)
       ∙ ap (λ (l : List ℕ). l ++ image) (sym (front-settings bytes (omega arith)))
 
   -- and with its own: bytes of the right size are those of the record that they hold
@@ -63,16 +63,16 @@ module _ (bytes : List ℕ) (h : length bytes ≡ 1819) where
   unfolding recordIn
   record-round =
       image-stored (imageIn bytes)
-      ∙ ap (λ (l : List ℕ). take 911 bytes ++ l) (take-all 908 (drop 911 bytes) (omega (arith, length-drop 911 bytes)))
-      ∙ take-append-drop 911 bytes
+      ∙ ap (λ (l : List ℕ). take imageAt bytes ++ l) (take-all 908 (drop imageAt bytes) (omega (arith, length-drop imageAt bytes)))
+      ∙ take-append-drop imageAt bytes
 
 -- bytes of the right size are those of the chip that they hold
-pub chip-round : (bytes : List ℕ) → length bytes ≡ 911 → chipBytes (chipIn bytes) ≡ bytes
+pub chip-round : (bytes : List ℕ) → length bytes ≡ chipSize → chipBytes (chipIn bytes) ≡ bytes
 unfolding chipIn chipBytes
 chip-round bytes h =
-    ap (λ (l : List ℕ). getD bytes 0 0 ∷ getD bytes 1 0 ∷ getD bytes 2 0 ∷ l) (take-all 908 (drop 3 bytes) (omega (arith, length-drop 3 bytes)))
-    ∙ sym (front bytes (drop 3 bytes) (omega arith))
-    ∙ take-append-drop 3 bytes
+    ap (λ (l : List ℕ). getD bytes 0 0 ∷ getD bytes 1 0 ∷ getD bytes 2 0 ∷ l) (take-all 908 (drop registersAt bytes) (omega (arith, length-drop registersAt bytes)))
+    ∙ sym (front bytes (drop registersAt bytes) (omega arith))
+    ∙ take-append-drop registersAt bytes
 
 -- a record is read back from its bytes
 pub record-back : (r : Record) → length (r .settings) ≡ 908 → length (r .image) ≡ 908 → recordIn (recordBytes r) ≡ r
@@ -89,29 +89,29 @@ chip-back c h = ap (λ (l : List ℕ). chipOf (c .member) (c .bus) (c .pins) l) 
 
 -- ---- sizes
 
-pub record-sized : (bytes : List ℕ) → length bytes ≡ 1819 → recordSized bytes ≡ true
+pub record-sized : (bytes : List ℕ) → length bytes ≡ recordSize → recordSized bytes ≡ true
 unfolding recordSized
-record-sized bytes h = eq-eqb (length bytes) 1819 h
+record-sized bytes h = eq-eqb (length bytes) recordSize h
 
-pub record-unsized : (bytes : List ℕ) → (length bytes ≡ 1819 → ⊥) → recordSized bytes ≡ false
+pub record-unsized : (bytes : List ℕ) → (length bytes ≡ recordSize → ⊥) → recordSized bytes ≡ false
 unfolding recordSized
-record-unsized bytes n = ne-eqb (length bytes) 1819 n
+record-unsized bytes n = ne-eqb (length bytes) recordSize n
 
-pub chip-sized : (bytes : List ℕ) → length bytes ≡ 911 → chipSized bytes ≡ true
+pub chip-sized : (bytes : List ℕ) → length bytes ≡ chipSize → chipSized bytes ≡ true
 unfolding chipSized
-chip-sized bytes h = eq-eqb (length bytes) 911 h
+chip-sized bytes h = eq-eqb (length bytes) chipSize h
 
-pub chip-unsized : (bytes : List ℕ) → (length bytes ≡ 911 → ⊥) → chipSized bytes ≡ false
+pub chip-unsized : (bytes : List ℕ) → (length bytes ≡ chipSize → ⊥) → chipSized bytes ≡ false
 unfolding chipSized
-chip-unsized bytes n = ne-eqb (length bytes) 911 n
+chip-unsized bytes n = ne-eqb (length bytes) chipSize n
 
 -- a record with whole images has the size of a record
-pub record-length : (r : Record) → length (r .settings) ≡ 908 → length (r .image) ≡ 908 → length (recordBytes r) ≡ 1819
+pub record-length : (r : Record) → length (r .settings) ≡ 908 → length (r .image) ≡ 908 → length (recordBytes r) ≡ recordSize
 unfolding recordBytes
 record-length r hs hi = omega (arith, length-append (r .settings) (r .image))
 
 -- and a chip that of a chip
-pub chip-length : (c : Chip) → length (c .registers) ≡ 908 → length (chipBytes c) ≡ 911
+pub chip-length : (c : Chip) → length (c .registers) ≡ 908 → length (chipBytes c) ≡ chipSize
 unfolding chipBytes
 chip-length c h = omega (arith, h)
 

@@ -21,6 +21,11 @@ use host::Header;
 use map::Answer;
 use map::Numbers;
 use map::Refusal;
+use records::CHIP_SIZE;
+use records::IMAGE;
+use records::RECORD_SIZE;
+use records::REGISTERS;
+use records::SETTINGS;
 use update::ListAnswer;
 
 // The answer to bytes of another size: that of an unsound record.
@@ -37,7 +42,7 @@ pub extern "C" fn lp586x_open(bytes: &mut [u8], member: u32, bus: u32, pins: u32
     ensures { λ r. ⌜ r ≡ openCall (now (bytes .entry)) member bus pins .answer ⌝ }
     ensures { λ _. ⌜ now (bytes .exit) ≡ openCall (now (bytes .entry)) member bus pins .bytes ⌝ }
 {
-    if bytes.len() != records::RECORD_SIZE {
+    if bytes.len() != RECORD_SIZE {
         return wrong_size();
     }
     let answer = map::open_answer(member as usize, bus as usize, pins as usize);
@@ -55,12 +60,14 @@ pub fn set_numbers(bytes: &mut [u8], setting: Setting, lent: &[u8]) -> Numbers
     ensures { λ r. ⌜ r ≡ settingNumbersCall (now (bytes .entry)) setting (now (lent .entry)) ⌝ }
     ensures { λ _. ⌜ now (bytes .exit) ≡ settingCall (now (bytes .entry)) setting (now (lent .entry)) .bytes ⌝ }
 {
-    if bytes.len() != records::RECORD_SIZE {
+    if bytes.len() != RECORD_SIZE {
         return map::number_alone(wrong_size() as usize);
     }
     let header = records::header(bytes);
-    let answer = host::setting_answer(header, &bytes[3..911], &bytes[911..1819], setting, lent);
-    host::put_setting(answer, header, &mut bytes[3..911], setting, lent)
+    let settings = &bytes[SETTINGS..IMAGE];
+    let image = &bytes[IMAGE..RECORD_SIZE];
+    let answer = host::setting_answer(header, settings, image, setting, lent);
+    host::put_setting(answer, header, &mut bytes[SETTINGS..IMAGE], setting, lent)
 }
 
 // Any setting, and its number alone.
@@ -136,12 +143,12 @@ pub extern "C" fn lp586x_power_lost(bytes: &mut [u8]) -> u32
     ensures { λ r. ⌜ r ≡ powerLostCall (now (bytes .entry)) .answer ⌝ }
     ensures { λ _. ⌜ now (bytes .exit) ≡ powerLostCall (now (bytes .entry)) .bytes ⌝ }
 {
-    if bytes.len() != records::RECORD_SIZE {
+    if bytes.len() != RECORD_SIZE {
         return wrong_size();
     }
     let header = records::header(bytes);
-    let answer = host::sound_answer(header, &bytes[3..911], &bytes[911..1819]);
-    host::put_lost(answer, header, &mut bytes[911..1819]);
+    let answer = host::sound_answer(header, &bytes[SETTINGS..IMAGE], &bytes[IMAGE..RECORD_SIZE]);
+    host::put_lost(answer, header, &mut bytes[IMAGE..RECORD_SIZE]);
     map::answer_number(answer) as u32
 }
 
@@ -181,15 +188,15 @@ pub extern "C" fn lp586x_update(
     ensures { λ _. ⌜ now (t .exit) ≡ updateCall (now (bytes .entry)) (now (buffer .entry)) (now (n .entry)) (now (t .entry)) .t ⌝ }
     ensures { λ _. ⌜ now (needed .exit) ≡ updateNeeded (now (bytes .entry)) (now (buffer .entry)) (now (needed .entry)) ⌝ }
 {
-    if bytes.len() != records::RECORD_SIZE {
+    if bytes.len() != RECORD_SIZE {
         return wrong_size();
     }
     let header = records::header(bytes);
     let mut image = records::image(bytes);
     let answer = update_image(
         header,
-        &bytes[3..911],
-        &bytes[911..1819],
+        &bytes[SETTINGS..IMAGE],
+        &bytes[IMAGE..RECORD_SIZE],
         &mut image,
         buffer,
     );
@@ -206,12 +213,14 @@ pub extern "C" fn lp586x_reset(bytes: &mut [u8], buffer: &mut [u8], n: &mut u32,
     ensures { λ _. ⌜ now (n .exit) ≡ resetCall (now (bytes .entry)) (now (buffer .entry)) (now (n .entry)) (now (t .entry)) .n ⌝ }
     ensures { λ _. ⌜ now (t .exit) ≡ resetCall (now (bytes .entry)) (now (buffer .entry)) (now (n .entry)) (now (t .entry)) .t ⌝ }
 {
-    if bytes.len() != records::RECORD_SIZE {
+    if bytes.len() != RECORD_SIZE {
         return wrong_size();
     }
     let header = records::header(bytes);
-    let answer = update::reset_parts(header, &bytes[3..911], &bytes[911..1819], buffer);
-    lists::keep_reset(answer, header, &mut bytes[911..1819]);
+    let settings = &bytes[SETTINGS..IMAGE];
+    let image = &bytes[IMAGE..RECORD_SIZE];
+    let answer = update::reset_parts(header, settings, image, buffer);
+    lists::keep_reset(answer, header, &mut bytes[IMAGE..RECORD_SIZE]);
     lists::count(answer, n, t)
 }
 
@@ -227,11 +236,13 @@ pub extern "C" fn lp586x_clear_opens(
     ensures { λ _. ⌜ now (n .exit) ≡ clearOpensCall (now (bytes .entry)) (now (buffer .entry)) (now (n .entry)) (now (t .entry)) .n ⌝ }
     ensures { λ _. ⌜ now (t .exit) ≡ clearOpensCall (now (bytes .entry)) (now (buffer .entry)) (now (n .entry)) (now (t .entry)) .t ⌝ }
 {
-    if bytes.len() != records::RECORD_SIZE {
+    if bytes.len() != RECORD_SIZE {
         return wrong_size();
     }
     let header = records::header(bytes);
-    let answer = update::clear_opens_parts(header, &bytes[3..911], &bytes[911..1819], buffer);
+    let settings = &bytes[SETTINGS..IMAGE];
+    let image = &bytes[IMAGE..RECORD_SIZE];
+    let answer = update::clear_opens_parts(header, settings, image, buffer);
     lists::count(answer, n, t)
 }
 
@@ -247,11 +258,13 @@ pub extern "C" fn lp586x_clear_shorts(
     ensures { λ _. ⌜ now (n .exit) ≡ clearShortsCall (now (bytes .entry)) (now (buffer .entry)) (now (n .entry)) (now (t .entry)) .n ⌝ }
     ensures { λ _. ⌜ now (t .exit) ≡ clearShortsCall (now (bytes .entry)) (now (buffer .entry)) (now (n .entry)) (now (t .entry)) .t ⌝ }
 {
-    if bytes.len() != records::RECORD_SIZE {
+    if bytes.len() != RECORD_SIZE {
         return wrong_size();
     }
     let header = records::header(bytes);
-    let answer = update::clear_shorts_parts(header, &bytes[3..911], &bytes[911..1819], buffer);
+    let settings = &bytes[SETTINGS..IMAGE];
+    let image = &bytes[IMAGE..RECORD_SIZE];
+    let answer = update::clear_shorts_parts(header, settings, image, buffer);
     lists::count(answer, n, t)
 }
 
@@ -317,7 +330,7 @@ pub extern "C" fn lp586x_chip_at_reset(bytes: &mut [u8], member: u32, bus: u32, 
     ensures { λ r. ⌜ r ≡ chipAtResetCall (now (bytes .entry)) member bus pins .answer ⌝ }
     ensures { λ _. ⌜ now (bytes .exit) ≡ chipAtResetCall (now (bytes .entry)) member bus pins .bytes ⌝ }
 {
-    if bytes.len() != records::CHIP_SIZE {
+    if bytes.len() != CHIP_SIZE {
         return wrong_size();
     }
     let answer = map::open_answer(member as usize, bus as usize, pins as usize);
@@ -335,11 +348,11 @@ pub extern "C" fn lp586x_chip_power_lost(bytes: &mut [u8]) -> u32
     ensures { λ r. ⌜ r ≡ chipPowerLostCall (now (bytes .entry)) .answer ⌝ }
     ensures { λ _. ⌜ now (bytes .exit) ≡ chipPowerLostCall (now (bytes .entry)) .bytes ⌝ }
 {
-    if bytes.len() != records::CHIP_SIZE {
+    if bytes.len() != CHIP_SIZE {
         return wrong_size();
     }
     let member = bytes[0];
-    chip::lose_power(member, &mut bytes[3..911]);
+    chip::lose_power(member, &mut bytes[REGISTERS..CHIP_SIZE]);
     0
 }
 
@@ -348,12 +361,12 @@ pub extern "C" fn lp586x_chip_feed(bytes: &mut [u8], list: &[u8]) -> u32
     ensures { λ r. ⌜ r ≡ chipFeedCall (now (bytes .entry)) (now (list .entry)) .answer ⌝ }
     ensures { λ _. ⌜ now (bytes .exit) ≡ chipFeedCall (now (bytes .entry)) (now (list .entry)) .bytes ⌝ }
 {
-    if bytes.len() != records::CHIP_SIZE {
+    if bytes.len() != CHIP_SIZE {
         return wrong_size();
     }
     let member = bytes[0];
     let bus = bytes[1];
     let pins = bytes[2];
-    let answer = chip::feed_registers(member, bus, pins, &mut bytes[3..911], list);
+    let answer = chip::feed_registers(member, bus, pins, &mut bytes[REGISTERS..CHIP_SIZE], list);
     map::answer_number(answer) as u32
 }

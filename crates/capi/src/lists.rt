@@ -6,7 +6,7 @@ ghost use lib.Dec.{eqb};
 ghost use lib.ListN.{length, take};
 ghost use Rattle.map.specs.Images.{resetImage};
 ghost use Rattle.update.specs.Update.{isListed, listNumber};
-ghost use Rattle.capi.specs.Capi.{nAfter, tAfter, neededAfter, Fits};
+ghost use Rattle.capi.specs.Capi.{imageAt, recordSize, nAfter, tAfter, neededAfter, Fits};
 use crate::records;
 use host::Header;
 use map::Refusal;
@@ -14,8 +14,8 @@ use update::ListAnswer;
 
 // The image that an update leaves.
 pub(crate) fn keep(answer: ListAnswer, bytes: &mut [u8], image: &[u8; 908])
-    requires { ⌜ (length (now bytes) ≡ 1819) × (length (now image) ≡ 908) ⌝ }
-    ensures { λ _. ⌜ now (bytes .exit) ≡ cond (isListed answer) (take 911 (now (bytes .entry)) ++ now (image .entry)) (now (bytes .entry)) ⌝ }
+    requires { ⌜ (length (now bytes) ≡ recordSize) × (length (now image) ≡ 908) ⌝ }
+    ensures { λ _. ⌜ now (bytes .exit) ≡ cond (isListed answer) (take imageAt (now (bytes .entry)) ++ now (image .entry)) (now (bytes .entry)) ⌝ }
 {
     match answer {
         ListAnswer::Listed { n: _, t: _ } => records::put_image(bytes, image),

@@ -5,12 +5,20 @@ ghost use Prim.Native.Nat.{_<_, _≤_};
 ghost use lib.ListN.{length, take, drop};
 ghost use Rattle.host.specs.Record.{opened};
 ghost use Rattle.chip.specs.Chip.{newChip};
-ghost use Rattle.capi.specs.Capi.{headerIn, imageIn, recordBytes, chipBytes};
+ghost use Rattle.capi.specs.Capi.{headerIn, imageAt, imageIn, recordBytes, recordSize, chipBytes, chipSize};
 use host::Header;
 
-pub(crate) const RECORD_SIZE: usize = 1819;
+// Where the settings and the chip image of a record begin, and where it ends.
+pub(crate) const SETTINGS: usize = 3;
 
-pub(crate) const CHIP_SIZE: usize = 911;
+pub(crate) const IMAGE: usize = SETTINGS + 908;
+
+pub(crate) const RECORD_SIZE: usize = IMAGE + 908;
+
+// Where the registers of a chip begin, and where it ends.
+pub(crate) const REGISTERS: usize = 3;
+
+pub(crate) const CHIP_SIZE: usize = REGISTERS + 908;
 
 pub(crate) fn header(bytes: &[u8]) -> Header
     requires { ⌜ 3 ≤ length (now bytes) ⌝ }
@@ -25,25 +33,25 @@ pub(crate) fn header(bytes: &[u8]) -> Header
 
 // The 908 bytes of the chip image.
 pub(crate) fn image(bytes: &[u8]) -> [u8; 908]
-    requires { ⌜ length (now bytes) ≡ 1819 ⌝ }
+    requires { ⌜ length (now bytes) ≡ recordSize ⌝ }
     ensures { λ r. ⌜ r ≡ imageIn (now (bytes .entry)) ⌝ }
 {
     let mut image = [0u8; 908];
     let mut i: usize = 0;
     while i < 908 {
-        image[i] = bytes[911 + i];
+        image[i] = bytes[IMAGE + i];
         i += 1;
     }
     image
 }
 
 pub(crate) fn put_image(bytes: &mut [u8], image: &[u8; 908])
-    requires { ⌜ (length (now bytes) ≡ 1819) × (length (now image) ≡ 908) ⌝ }
-    ensures { λ _. ⌜ now (bytes .exit) ≡ take 911 (now (bytes .entry)) ++ now (image .entry) ⌝ }
+    requires { ⌜ (length (now bytes) ≡ recordSize) × (length (now image) ≡ 908) ⌝ }
+    ensures { λ _. ⌜ now (bytes .exit) ≡ take imageAt (now (bytes .entry)) ++ now (image .entry) ⌝ }
 {
     let mut i: usize = 0;
     while i < 908 {
-        bytes[911 + i] = image[i];
+        bytes[IMAGE + i] = image[i];
         i += 1;
     }
 }
@@ -60,19 +68,19 @@ fn put_front(bytes: &mut [u8], member: u8, bus: u8, pins: u8)
 
 // A record that was opened: the front, and the member's reset values for both images.
 pub(crate) fn put_record(bytes: &mut [u8], member: usize, bus: usize, pins: usize)
-    requires { ⌜ (length (now bytes) ≡ 1819) × (member < 5) × (bus < 2) × (pins < 4) ⌝ }
+    requires { ⌜ (length (now bytes) ≡ recordSize) × (member < 5) × (bus < 2) × (pins < 4) ⌝ }
     ensures { λ _. ⌜ now (bytes .exit) ≡ recordBytes (opened member bus pins) ⌝ }
 {
     put_front(bytes, member as u8, bus as u8, pins as u8);
-    images::put_reset(member, &mut bytes[3..911]); // the settings
-    images::put_reset(member, &mut bytes[911..1819]); // the chip image
+    images::put_reset(member, &mut bytes[SETTINGS..IMAGE]); // the settings
+    images::put_reset(member, &mut bytes[IMAGE..RECORD_SIZE]); // the chip image
 }
 
 // A chip that was just given power: the front, and the member's reset values.
 pub(crate) fn put_chip(bytes: &mut [u8], member: usize, bus: usize, pins: usize)
-    requires { ⌜ (length (now bytes) ≡ 911) × (member < 5) × (bus < 2) × (pins < 4) ⌝ }
+    requires { ⌜ (length (now bytes) ≡ chipSize) × (member < 5) × (bus < 2) × (pins < 4) ⌝ }
     ensures { λ _. ⌜ now (bytes .exit) ≡ chipBytes (newChip member bus pins) ⌝ }
 {
     put_front(bytes, member as u8, bus as u8, pins as u8);
-    images::put_reset(member, &mut bytes[3..911]); // the registers
+    images::put_reset(member, &mut bytes[REGISTERS..CHIP_SIZE]); // the registers
 }

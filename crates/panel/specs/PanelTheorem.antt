@@ -27,7 +27,7 @@ use Rattle.history.specs.History.{Call, start, run, worldAfter, told, ledgerAft
 use Rattle.history.specs.WorldLaws.{Holds, start-holds, run-holds}
 use Rattle.history.specs.Theorem.{holds-owes}
 use Rattle.history.specs.Lamps.{SameLamp, same-lamp}
-use Rattle.capi.specs.Capi.{headerIn, recordBytes, chipBytes, whenSized, settingNumber, chipNumber, nAfter, tAfter, Outcome, ListOutcome}
+use Rattle.capi.specs.Capi.{headerIn, recordBytes, recordSize, chipBytes, chipSize, whenSized, settingNumber, chipNumber, nAfter, tAfter, Outcome, ListOutcome}
 use Rattle.capi.specs.Calls.{chipFeedCall}
 use Rattle.capi.specs.CapiLaws.{record-sized, chip-sized, record-length, chip-length, accepted-zero, zero-accepted, zero-stores}
 use Rattle.capi.specs.CallLaws.{listOutcomeOf, open-accepted, open-bytes, at-reset-bytes, send-call, feed-call}
@@ -36,7 +36,7 @@ use Rattle.panel.specs.PanelHistory.{PanelCall, panelStart, PanelOpened,
 use Rattle.panel.specs.PanelLaws.{bytesOf, Whole, whole, run-bytes, run-told}
 
 -- any memory of the two sizes serves, with any member, bus and pins that Open takes
-pub opened-by : (m b p : ℕ) (memory : Panel) → length (memory .host) ≡ 1819 → length (memory .chip) ≡ 911 → accepted (openOf m b p .answer) ≡ true →
+pub opened-by : (m b p : ℕ) (memory : Panel) → length (memory .host) ≡ recordSize → length (memory .chip) ≡ chipSize → accepted (openOf m b p .answer) ≡ true →
     PanelOpened m b p memory
 unfolding settingNumber chipNumber whenSized openOf atResetOf
 opened-by m b p memory hr hc e = record {
@@ -218,12 +218,12 @@ module _ (m b p : ℕ) (memory : Panel) (o : PanelOpened m b p memory) where
     whole-after = sizes m b p takes (resetImage m) (start m b p) begins calls
 
     -- the sizes stay
-    pub record-size : length (panelAfter m b p memory calls .host) ≡ 1819
+    pub record-size : length (panelAfter m b p memory calls .host) ≡ recordSize
     record-size =
         ap (λ (x : Panel). length (x .host)) (after-bytes calls)
         ∙ record-length (worldAfter m b p (map callOf calls) .host) (whole-after .settings) (whole-after .image)
 
-    pub chip-size : length (panelAfter m b p memory calls .chip) ≡ 911
+    pub chip-size : length (panelAfter m b p memory calls .chip) ≡ chipSize
     chip-size =
         ap (λ (x : Panel). length (x .chip)) (after-bytes calls) ∙ chip-length (worldAfter m b p (map callOf calls) .chip) (whole-after .registers)
 

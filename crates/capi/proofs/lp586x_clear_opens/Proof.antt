@@ -19,23 +19,23 @@ returns c = rw (record-unsized (c .before .before .before .before .args .bytes .
 header-requires : tie.Need-header-requires
 header-requires c κs = search needs
 
-sub-clear-opens-parts : tie.Need-sub-clear-opens-parts
-sub-clear-opens-parts c = search needs
+sub-settings : tie.Need-sub-settings
+sub-settings c = search needs
 
-part-clear-opens-parts-start : tie.Need-part-clear-opens-parts-start
-part-clear-opens-parts-start c = search needs
+part-settings-start : tie.Need-part-settings-start
+part-settings-start c = search needs
 
-part-clear-opens-parts-end : tie.Need-part-clear-opens-parts-end
-part-clear-opens-parts-end c = search needs
+part-settings-end : tie.Need-part-settings-end
+part-settings-end c = search needs
 
-sub-clear-opens-parts-2 : tie.Need-sub-clear-opens-parts-2
-sub-clear-opens-parts-2 c = search needs
+sub-image : tie.Need-sub-image
+sub-image c = search needs
 
-part-clear-opens-parts-start-2 : tie.Need-part-clear-opens-parts-start-2
-part-clear-opens-parts-start-2 c = search needs
+part-image-start : tie.Need-part-image-start
+part-image-start c = search needs
 
-part-clear-opens-parts-end-2 : tie.Need-part-clear-opens-parts-end-2
-part-clear-opens-parts-end-2 c = search needs
+part-image-end : tie.Need-part-image-end
+part-image-end c = search needs
 
 clear-opens-parts-requires : tie.Need-clear-opens-parts-requires
 clear-opens-parts-requires c κs = search needs
@@ -69,12 +69,12 @@ lp586x-clear-opens-spec =
     wrong-size-requires
     returns
     header-requires
-    sub-clear-opens-parts
-    part-clear-opens-parts-start
-    part-clear-opens-parts-end
-    sub-clear-opens-parts-2
-    part-clear-opens-parts-start-2
-    part-clear-opens-parts-end-2
+    sub-settings
+    part-settings-start
+    part-settings-end
+    sub-image
+    part-image-start
+    part-image-end
     clear-opens-parts-requires
     count-requires
     same-length

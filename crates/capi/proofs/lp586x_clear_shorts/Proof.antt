@@ -19,23 +19,23 @@ returns c = rw (record-unsized (c .before .before .before .before .args .bytes .
 header-requires : tie.Need-header-requires
 header-requires c κs = search needs
 
-sub-clear-shorts-parts : tie.Need-sub-clear-shorts-parts
-sub-clear-shorts-parts c = search needs
+sub-settings : tie.Need-sub-settings
+sub-settings c = search needs
 
-part-clear-shorts-parts-start : tie.Need-part-clear-shorts-parts-start
-part-clear-shorts-parts-start c = search needs
+part-settings-start : tie.Need-part-settings-start
+part-settings-start c = search needs
 
-part-clear-shorts-parts-end : tie.Need-part-clear-shorts-parts-end
-part-clear-shorts-parts-end c = search needs
+part-settings-end : tie.Need-part-settings-end
+part-settings-end c = search needs
 
-sub-clear-shorts-parts-2 : tie.Need-sub-clear-shorts-parts-2
-sub-clear-shorts-parts-2 c = search needs
+sub-image : tie.Need-sub-image
+sub-image c = search needs
 
-part-clear-shorts-parts-start-2 : tie.Need-part-clear-shorts-parts-start-2
-part-clear-shorts-parts-start-2 c = search needs
+part-image-start : tie.Need-part-image-start
+part-image-start c = search needs
 
-part-clear-shorts-parts-end-2 : tie.Need-part-clear-shorts-parts-end-2
-part-clear-shorts-parts-end-2 c = search needs
+part-image-end : tie.Need-part-image-end
+part-image-end c = search needs
 
 clear-shorts-parts-requires : tie.Need-clear-shorts-parts-requires
 clear-shorts-parts-requires c κs = search needs
@@ -69,12 +69,12 @@ lp586x-clear-shorts-spec =
     wrong-size-requires
     returns
     header-requires
-    sub-clear-shorts-parts
-    part-clear-shorts-parts-start
-    part-clear-shorts-parts-end
-    sub-clear-shorts-parts-2
-    part-clear-shorts-parts-start-2
-    part-clear-shorts-parts-end-2
+    sub-settings
+    part-settings-start
+    part-settings-end
+    sub-image
+    part-image-start
+    part-image-end
     clear-shorts-parts-requires
     count-requires
     same-length

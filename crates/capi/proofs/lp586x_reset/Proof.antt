@@ -19,23 +19,23 @@ returns c = rw (record-unsized (c .before .before .before .before .args .bytes .
 header-requires : tie.Need-header-requires
 header-requires c κs = search needs
 
-sub-reset-parts : tie.Need-sub-reset-parts
-sub-reset-parts c = search needs
+sub-settings : tie.Need-sub-settings
+sub-settings c = search needs
 
-part-reset-parts-start : tie.Need-part-reset-parts-start
-part-reset-parts-start c = search needs
+part-settings-start : tie.Need-part-settings-start
+part-settings-start c = search needs
 
-part-reset-parts-end : tie.Need-part-reset-parts-end
-part-reset-parts-end c = search needs
+part-settings-end : tie.Need-part-settings-end
+part-settings-end c = search needs
 
-sub-reset-parts-2 : tie.Need-sub-reset-parts-2
-sub-reset-parts-2 c = search needs
+sub-image : tie.Need-sub-image
+sub-image c = search needs
 
-part-reset-parts-start-2 : tie.Need-part-reset-parts-start-2
-part-reset-parts-start-2 c = search needs
+part-image-start : tie.Need-part-image-start
+part-image-start c = search needs
 
-part-reset-parts-end-2 : tie.Need-part-reset-parts-end-2
-part-reset-parts-end-2 c = search needs
+part-image-end : tie.Need-part-image-end
+part-image-end c = search needs
 
 reset-parts-requires : tie.Need-reset-parts-requires
 reset-parts-requires c κs = search needs
@@ -87,12 +87,12 @@ lp586x-reset-spec =
     wrong-size-requires
     returns
     header-requires
-    sub-reset-parts
-    part-reset-parts-start
-    part-reset-parts-end
-    sub-reset-parts-2
-    part-reset-parts-start-2
-    part-reset-parts-end-2
+    sub-settings
+    part-settings-start
+    part-settings-end
+    sub-image
+    part-image-start
+    part-image-end
     reset-parts-requires
     sub-keep-reset
     part-keep-reset-start

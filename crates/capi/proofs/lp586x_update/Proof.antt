@@ -5,7 +5,7 @@ use lib.ListN.{length}
 use Rattle.capi.proofs.InPlace.{part-length}
 use mathlib.Core.Path.{refl, ap, _∙_}
 use Rattle.capi.specs.CapiLaws.{record-unsized}
-use Rattle.capi.specs.Capi.{listAnswer, listBytes, bufferAfter, stored}
+use Rattle.capi.specs.Capi.{imageAt, listAnswer, listBytes, bufferAfter, stored}
 use Rattle.update.specs.Update.{updating}
 use Rattle.capi.proofs.Listed.{update-within, answer-is, buffer-is, copied-back}
 use borrow.Author.Needs.{needs}
@@ -51,7 +51,7 @@ keep-requires c κs =
     let sent = c .before .before .before .before in
     let read = sent .before .before .before .before .before .before in
     let begun = read .before .before .before .before .before .before .before in
-    (omega arith, sent .update-image .ensures .1 .1 .0 ∙ ap length (read .image .ensures) ∙ part-length 911 908 (begun .args .bytes .now) (omega arith))
+    (omega arith, sent .update-image .ensures .1 .1 .0 ∙ ap length (read .image .ensures) ∙ part-length imageAt 908 (begun .args .bytes .now) (omega arith))
 
 put-needed-requires : tie.Need-put-needed-requires
 put-needed-requires c κs = update-within _ _ _ (c .before .before .before .before .before .before .before .before .update-image .ensures .0)

@@ -20,23 +20,23 @@ returns c = wrong-size-set _ _ _ _ (c .before .before .if1 .taken) (c .before .w
 header-requires : tie.Need-header-requires
 header-requires c κs = search needs
 
-sub-setting-answer : tie.Need-sub-setting-answer
-sub-setting-answer c = search needs
+sub-settings : tie.Need-sub-settings
+sub-settings c = search needs
 
-part-setting-answer-start : tie.Need-part-setting-answer-start
-part-setting-answer-start c = search needs
+part-settings-start : tie.Need-part-settings-start
+part-settings-start c = search needs
 
-part-setting-answer-end : tie.Need-part-setting-answer-end
-part-setting-answer-end c = search needs
+part-settings-end : tie.Need-part-settings-end
+part-settings-end c = search needs
 
-sub-setting-answer-2 : tie.Need-sub-setting-answer-2
-sub-setting-answer-2 c = search needs
+sub-image : tie.Need-sub-image
+sub-image c = search needs
 
-part-setting-answer-start-2 : tie.Need-part-setting-answer-start-2
-part-setting-answer-start-2 c = search needs
+part-image-start : tie.Need-part-image-start
+part-image-start c = search needs
 
-part-setting-answer-end-2 : tie.Need-part-setting-answer-end-2
-part-setting-answer-end-2 c = search needs
+part-image-end : tie.Need-part-image-end
+part-image-end c = search needs
 
 setting-answer-requires : tie.Need-setting-answer-requires
 setting-answer-requires c κs = search needs
@@ -74,12 +74,12 @@ set-numbers-spec =
     number-alone-requires
     returns
     header-requires
-    sub-setting-answer
-    part-setting-answer-start
-    part-setting-answer-end
-    sub-setting-answer-2
-    part-setting-answer-start-2
-    part-setting-answer-end-2
+    sub-settings
+    part-settings-start
+    part-settings-end
+    sub-image
+    part-image-start
+    part-image-end
     setting-answer-requires
     sub-put-setting
     part-put-setting-start

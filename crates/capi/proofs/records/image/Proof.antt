@@ -4,12 +4,13 @@ use mathlib.Core.Path.{refl}
 use Prim.Native.Nat.{_-_, _≤_}
 use native.Mathlib.Omega.{arith}
 use lib.ListN.{drop}
+use Rattle.capi.specs.Capi.{imageAt}
 use Rattle.capi.proofs.Copies.{Copied, copied-none, part-more, part-done}
 use Rattle.capi.proofs.records.image.Statement.{statement}
 use Rattle.capi.proofs.records.image.Tie as tie
 
 abbrev Inv-loop : tie.InvT-loop
-Inv-loop bytes image₀ i₀ image i = (i ≤ 908) × Copied image₀ (drop 911 bytes) 0 i image
+Inv-loop bytes image₀ i₀ image i = (i ≤ 908) × Copied image₀ (drop imageAt bytes) 0 i image
 
 abbrev μ-loop : tie.MeasureT-loop
 μ-loop bytes image₀ i₀ image i = 908 - i
@@ -33,7 +34,7 @@ loop-less : tie.Need-loop-less Inv-loop μ-loop
 loop-less c = omega arith
 
 loop-again : tie.Need-loop-again Inv-loop μ-loop
-loop-again c = (omega arith, part-more _ (c .before .before .before .args .bytes .now) _ 911 (c .before .before .loop .i) (omega arith) (omega arith) (c .before .before .loop .inv .1))
+loop-again c = (omega arith, part-more _ (c .before .before .before .args .bytes .now) _ imageAt (c .before .before .loop .i) (omega arith) (omega arith) (c .before .before .loop .inv .1))
 
 returns : tie.Need-returns Inv-loop μ-loop
 returns c = part-done _ _ _ (c .before .loop .i) 908 (omega arith) refl (c .before .loop .inv .1)

@@ -2,12 +2,13 @@
 -- Assumes nothing.
 use Prim.Native.Nat.{_-_, _≤_}
 use native.Mathlib.Omega.{arith}
+use Rattle.capi.specs.Capi.{imageAt}
 use Rattle.capi.proofs.Copies.{Copied, copied-none, copied-more, end-done}
 use Rattle.capi.proofs.records.put_image.Statement.{statement}
 use Rattle.capi.proofs.records.put_image.Tie as tie
 
 abbrev Inv-loop : tie.InvT-loop
-Inv-loop bytes₀ image i₀ bytes i = (i ≤ 908) × Copied bytes₀ image 911 i bytes
+Inv-loop bytes₀ image i₀ bytes i = (i ≤ 908) × Copied bytes₀ image imageAt i bytes
 
 abbrev μ-loop : tie.MeasureT-loop
 μ-loop bytes₀ image i₀ bytes i = 908 - i
