@@ -174,14 +174,9 @@ static uint32_t call_reset(const struct interface *calls, struct situation *s)
     return calls->reset(s->record, sizeof s->record, s->buffer, sizeof s->buffer, &s->n, &s->t);
 }
 
-static uint32_t call_clear_opens(const struct interface *calls, struct situation *s)
+static uint32_t call_clear(const struct interface *calls, struct situation *s)
 {
-    return calls->clear_opens(s->record, sizeof s->record, s->buffer, sizeof s->buffer, &s->n, &s->t);
-}
-
-static uint32_t call_clear_shorts(const struct interface *calls, struct situation *s)
-{
-    return calls->clear_shorts(s->record, sizeof s->record, s->buffer, sizeof s->buffer, &s->n, &s->t);
+    return calls->clear(s->record, sizeof s->record, s->buffer, sizeof s->buffer, &s->n, &s->t);
 }
 
 static uint32_t call_chip_at_reset(const struct interface *calls, struct situation *s)
@@ -227,8 +222,7 @@ const struct bench_case cases[] = {
     {"Update, nothing changed", as_it_is, call_update},
     {"Reset", as_it_is, call_reset},
     {"Power lost", as_it_is, call_power_lost},
-    {"Clear opens", as_it_is, call_clear_opens},
-    {"Clear shorts", as_it_is, call_clear_shorts},
+    {"Clear", as_it_is, call_clear},
     {"Transactions of a list of one lamp", list_one_lamp, call_walk},
     {"Transactions of the list of the full update", list_all_registers, call_walk},
     {"Faults", fill_faults, call_faults},

@@ -74,8 +74,10 @@ extern "C" {
 
 /* A buffer of this size is never too short for lp586x_update. */
 #define LP586X_UPDATE_SIZE 1174u
-/* The size of the list of lp586x_reset, lp586x_clear_opens and lp586x_clear_shorts. */
+/* The size of the list of lp586x_reset. */
 #define LP586X_COMMAND_SIZE 9u
+/* The size of the list of lp586x_clear. */
+#define LP586X_CLEAR_SIZE 10u
 /* Fault bytes 064h to 0A6h, and a reading for each dot 18 x line + sink. */
 #define LP586X_FAULT_BYTES 67u
 #define LP586X_DOTS 198u
@@ -141,10 +143,10 @@ uint32_t lp586x_update(uint8_t *record, size_t record_size, uint8_t *buffer, siz
  * Changes record, buffer, n and t, none null. */
 uint32_t lp586x_reset(uint8_t *record, size_t record_size, uint8_t *buffer, size_t buffer_size, uint32_t *n, uint32_t *t);
 
-/* The open bits, the short bits of the chip to 0; these two may run side by side on one record. 0 stores n and t. 14, 10 (buffer under 9).
- * Each reads record and changes buffer, n and t, none null. */
-uint32_t lp586x_clear_opens(const uint8_t *record, size_t record_size, uint8_t *buffer, size_t buffer_size, uint32_t *n, uint32_t *t);
-uint32_t lp586x_clear_shorts(const uint8_t *record, size_t record_size, uint8_t *buffer, size_t buffer_size, uint32_t *n, uint32_t *t);
+/* The open bits and the short bits of the chip to 0, by one write. Several of these calls may run side by side on one record. 0 stores n
+ * and t. 14, 10 (buffer under 10).
+ * Reads record, changes buffer, n and t, none null. */
+uint32_t lp586x_clear(const uint8_t *record, size_t record_size, uint8_t *buffer, size_t buffer_size, uint32_t *n, uint32_t *t);
 
 /* Where a transaction stands in a list: length bytes from offset on. The index counts from 0, and the list's size is 4 + 2n + t, not that
  * of a buffer that holds it. 0 stores both. 11 (as lp586x_chip_feed), 26 (an index of n or more).

@@ -322,6 +322,65 @@ static void clears(void)
     expect_faults(&world, 0xFF, 0xFF, 0xFF);
 }
 
+/* 0Fh at 0A7h alone, or at 0A8h alone, in a list of nine bytes. */
+static void feed_half(struct world *world, uint8_t address)
+{
+    list_start();
+    if (world->chip[1] == LP586X_I2C)
+        ADD((uint8_t)(0x80 + 8 * world->chip[2]), address, 0x0F);
+    else if (address == 0xA7)
+        ADD(0x29, 0xE0, 0x0F);
+    else
+        ADD(0x2A, 0x20, 0x0F);
+    check(list_size == 9, "the list has %zu bytes", list_size);
+    feed(world);
+}
+
+static void feed_clear(struct world *world)
+{
+    struct outcome outcome = world_list(world, CLEAR, LP586X_CLEAR_SIZE);
+
+    check(outcome.answer == 0, "Clear is refused with %u", outcome.answer);
+    memcpy(list, outcome.buffer, LP586X_CLEAR_SIZE);
+    list_size = LP586X_CLEAR_SIZE;
+    feed(world);
+}
+
+/* Clear, and its two halves in either order: each clears all fault bits of a chip that is on, and changes nothing in standby. */
+static void clear_and_halves(uint32_t member, uint32_t bus, uint32_t pins, uint8_t on)
+{
+    struct world world, upward, downward, expected;
+
+    world_open(&world, member, bus, pins);
+    world.chip[CHIP_REGISTERS + 0x000] = on;
+    world_any_faults(&world);
+    upward = downward = expected = world;
+    if (on) {
+        expected.chip[CHIP_REGISTERS + 0x064] &= 0xFC;
+        memset(expected.chip + CHIP_REGISTERS + 0x065, 0x00, 2 * 33);
+    }
+    feed_clear(&world);
+    feed_half(&upward, 0xA7);
+    feed_half(&upward, 0xA8);
+    feed_half(&downward, 0xA8);
+    feed_half(&downward, 0xA7);
+    check(memcmp(world.chip, expected.chip, sizeof expected.chip) == 0, "member %u: Clear leaves another chip", member);
+    check(memcmp(upward.chip, expected.chip, sizeof expected.chip) == 0, "member %u: 0A7h, 0A8h leave another chip", member);
+    check(memcmp(downward.chip, expected.chip, sizeof expected.chip) == 0, "member %u: 0A8h, 0A7h leave another chip", member);
+}
+
+static void clears_and_halves(void)
+{
+    context("Clear and its two halves");
+    for (uint32_t member = LP586X_LP5860; member <= LP586X_LP5868T; member++)
+        for (uint8_t on = 0; on < 2; on++)
+            for (int times = 0; times < 20; times++) {
+                for (uint32_t pins = 0; pins < 4; pins++)
+                    clear_and_halves(member, LP586X_I2C, pins, on);
+                clear_and_halves(member, LP586X_SPI, 0, on);
+            }
+}
+
 /* "FFh at 0A9h restores all reset values and drops the transaction's rest." */
 static void resets(void)
 {
@@ -407,6 +466,7 @@ void group_chip(void)
     standby();
     kept_values();
     clears();
+    clears_and_halves();
     resets();
     reset_on_the_way();
     power_losses();

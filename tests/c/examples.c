@@ -159,25 +159,21 @@ static void commands(void)
     struct world world;
     struct outcome outcome;
 
-    context("the fixed bytes of Reset and the Clears");
+    context("the fixed bytes of Reset and Clear");
     for (uint32_t pins = 0; pins < 4; pins++) {
         uint8_t head = (uint8_t)(0x80 + 8 * pins);
 
         world_open(&world, LP586X_LP5864, LP586X_I2C, pins);
         outcome = world_list(&world, RESET, 9);
         EXPECT_LIST(&outcome, 1, 0, 3, 0, 3, 0, head, 0xA9, 0xFF);
-        outcome = world_list(&world, CLEAR_OPENS, 9);
-        EXPECT_LIST(&outcome, 1, 0, 3, 0, 3, 0, head, 0xA7, 0x0F);
-        outcome = world_list(&world, CLEAR_SHORTS, 9);
-        EXPECT_LIST(&outcome, 1, 0, 3, 0, 3, 0, head, 0xA8, 0x0F);
+        outcome = world_list(&world, CLEAR, 10);
+        EXPECT_LIST(&outcome, 1, 0, 4, 0, 4, 0, head, 0xA7, 0x0F, 0x0F);
     }
     world_open(&world, LP586X_LP5864, LP586X_SPI, 0);
     outcome = world_list(&world, RESET, 20);
     EXPECT_LIST(&outcome, 1, 0, 3, 0, 3, 0, 0x2A, 0x60, 0xFF);
-    outcome = world_list(&world, CLEAR_OPENS, 20);
-    EXPECT_LIST(&outcome, 1, 0, 3, 0, 3, 0, 0x29, 0xE0, 0x0F);
-    outcome = world_list(&world, CLEAR_SHORTS, 20);
-    EXPECT_LIST(&outcome, 1, 0, 3, 0, 3, 0, 0x2A, 0x20, 0x0F);
+    outcome = world_list(&world, CLEAR, 20);
+    EXPECT_LIST(&outcome, 1, 0, 4, 0, 4, 0, 0x29, 0xE0, 0x0F, 0x0F);
 }
 
 /* "Settings off, chip on: one write of 00h to 000h. Both off: nothing. Other settings wait." */

@@ -361,8 +361,7 @@ static void feed_anything(struct history *history)
     size_t size = some_list(&history->wild, list);
 
     if (one_in(8))
-        for (uint32_t i = 0; i < LP586X_FAULT_BYTES; i++)
-            history->wild.chip[CHIP_REGISTERS + 0x064 + i] = (uint8_t)random_bits();
+        world_any_faults(&history->wild);
     note_answer(FEED, world_feed(&history->wild, list, size));
 }
 
@@ -479,7 +478,7 @@ static void one_call(struct history *history)
     else if (choice < 76)
         lose_power(history);
     else if (choice < 78)
-        command(history, one_in(2) ? CLEAR_OPENS : CLEAR_SHORTS);
+        command(history, CLEAR);
     else if (choice < 80)
         read_faults(history);
     else if (choice < 85)
@@ -525,8 +524,7 @@ static const uint8_t refusals[KINDS][5] = {
     [POWER_LOST] = {14},
     [UPDATE] = {14, 10},
     [RESET] = {14, 10},
-    [CLEAR_OPENS] = {14, 10},
-    [CLEAR_SHORTS] = {14, 10},
+    [CLEAR] = {14, 10},
     [FAULTS] = {1, 13, 10},
     [CHIP_AT_RESET] = {14, 1, 2, 3},
     [CHIP_POWER_LOST] = {14},

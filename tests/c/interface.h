@@ -5,10 +5,6 @@
 #include <stddef.h>
 #include <stdint.h>
 
-typedef uint32_t list_call(uint8_t *record, size_t record_size, uint8_t *buffer, size_t buffer_size, uint32_t *n, uint32_t *t);
-typedef uint32_t clear_call(const uint8_t *record, size_t record_size, uint8_t *buffer, size_t buffer_size, uint32_t *n,
-                            uint32_t *t);
-
 struct interface {
     const char *name;
     uint32_t (*open)(uint8_t *record, size_t record_size, uint32_t member, uint32_t bus, uint32_t pins);
@@ -20,8 +16,8 @@ struct interface {
     uint32_t (*power_lost)(uint8_t *record, size_t record_size);
     uint32_t (*update)(uint8_t *record, size_t record_size, uint8_t *buffer, size_t buffer_size, uint32_t *n, uint32_t *t,
                        uint32_t *needed);
-    list_call *reset;
-    clear_call *clear_opens, *clear_shorts;
+    uint32_t (*reset)(uint8_t *record, size_t record_size, uint8_t *buffer, size_t buffer_size, uint32_t *n, uint32_t *t);
+    uint32_t (*clear)(const uint8_t *record, size_t record_size, uint8_t *buffer, size_t buffer_size, uint32_t *n, uint32_t *t);
     uint32_t (*transaction)(const uint8_t *list, size_t list_size, uint32_t index, uint32_t *offset, uint32_t *length);
     uint32_t (*faults)(uint32_t member, const uint8_t *bytes, size_t bytes_size, uint8_t *result, size_t result_size,
                        uint32_t *opens_agree, uint32_t *shorts_agree);

@@ -35,8 +35,8 @@ enum {
     FAULT_STATE = 0x064,
     OPENS = 0x065,
     SHORTS = 0x086,
-    CLEAR_OPENS = 0x0A7,
-    CLEAR_SHORTS = 0x0A8,
+    LOD_CLEAR = 0x0A7,
+    LSD_CLEAR = 0x0A8,
     RESET = 0x0A9,
     CURRENTS = 0x100,
     PWM = 0x200,
@@ -484,44 +484,41 @@ uint32_t reference_update(uint8_t *bytes, size_t size, uint8_t *buffer, size_t b
     return ACCEPTED;
 }
 
-/* The list of one write of one byte. */
+/* The list of one write: a value so many times, from an address on. */
 static uint32_t put_command(const uint8_t *bytes, size_t size, uint8_t *buffer, size_t buffer_size, uint32_t *n, uint32_t *t,
-                            uint32_t address, uint8_t value)
+                            uint32_t address, uint8_t value, uint32_t count)
 {
     const struct record *record = (const struct record *)bytes;
+    uint32_t length = 2 + count;
 
     if (!record_sound(bytes, size))
         return UNSOUND;
-    if (buffer_size < LP586X_COMMAND_SIZE)
+    if (buffer_size < 6 + length)
         return BUFFER_SHORT;
     put_two(buffer, 1);
-    put_two(buffer + 2, 3);
-    put_two(buffer + 4, 3);
+    put_two(buffer + 2, length);
+    put_two(buffer + 4, length);
     put_head(buffer + 6, record->bus, record->pins, address);
-    buffer[8] = value;
+    memset(buffer + 8, value, count);
     *n = 1;
-    *t = 3;
+    *t = length;
     return ACCEPTED;
 }
 
 uint32_t reference_reset(uint8_t *bytes, size_t size, uint8_t *buffer, size_t buffer_size, uint32_t *n, uint32_t *t)
 {
     struct record *record = (struct record *)bytes;
-    uint32_t answer = put_command(bytes, size, buffer, buffer_size, n, t, RESET, 0xFF);
+    uint32_t answer = put_command(bytes, size, buffer, buffer_size, n, t, RESET, 0xFF, 1);
 
     if (answer == ACCEPTED)
         memcpy(record->image, maps[record->member].reset, REGISTERS);
     return answer;
 }
 
-uint32_t reference_clear_opens(const uint8_t *bytes, size_t size, uint8_t *buffer, size_t buffer_size, uint32_t *n, uint32_t *t)
+/* LOD_CLEAR and LSD_CLEAR, which are adjacent. */
+uint32_t reference_clear(const uint8_t *bytes, size_t size, uint8_t *buffer, size_t buffer_size, uint32_t *n, uint32_t *t)
 {
-    return put_command(bytes, size, buffer, buffer_size, n, t, CLEAR_OPENS, 0x0F);
-}
-
-uint32_t reference_clear_shorts(const uint8_t *bytes, size_t size, uint8_t *buffer, size_t buffer_size, uint32_t *n, uint32_t *t)
-{
-    return put_command(bytes, size, buffer, buffer_size, n, t, CLEAR_SHORTS, 0x0F);
+    return put_command(bytes, size, buffer, buffer_size, n, t, LOD_CLEAR, 0x0F, 2);
 }
 
 /* ---- The chip model */
@@ -534,7 +531,7 @@ static int chip_sound(const uint8_t *bytes, size_t size)
     if (size != LP586X_CHIP_SIZE || open_refusal(chip->member, chip->bus, chip->pins) != ACCEPTED)
         return 0;
     return range_sound(&maps[chip->member], chip->registers, 0, FAULT_STATE) &&
-           range_sound(&maps[chip->member], chip->registers, CLEAR_OPENS, REGISTERS);
+           range_sound(&maps[chip->member], chip->registers, LOD_CLEAR, REGISTERS);
 }
 
 uint32_t reference_chip_at_reset(uint8_t *bytes, size_t size, uint32_t member, uint32_t bus, uint32_t pins)
@@ -638,9 +635,9 @@ static void apply_data(struct chip *chip, uint32_t start, const uint8_t *data, u
             memcpy(chip->registers, map->reset, REGISTERS);
             return;
         }
-        if (address == CLEAR_OPENS && data[i] == 0x0F)
+        if (address == LOD_CLEAR && data[i] == 0x0F)
             clear_faults(chip, OPENS, 2);
-        if (address == CLEAR_SHORTS && data[i] == 0x0F)
+        if (address == LSD_CLEAR && data[i] == 0x0F)
             clear_faults(chip, SHORTS, 1);
         *byte = (uint8_t)((*byte & kept) | (data[i] & ~kept));
     }

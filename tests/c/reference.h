@@ -22,10 +22,7 @@ uint32_t reference_power_lost(uint8_t *record, size_t record_size);
 uint32_t reference_update(uint8_t *record, size_t record_size, uint8_t *buffer, size_t buffer_size, uint32_t *n, uint32_t *t,
                           uint32_t *needed);
 uint32_t reference_reset(uint8_t *record, size_t record_size, uint8_t *buffer, size_t buffer_size, uint32_t *n, uint32_t *t);
-uint32_t reference_clear_opens(const uint8_t *record, size_t record_size, uint8_t *buffer, size_t buffer_size, uint32_t *n,
-                               uint32_t *t);
-uint32_t reference_clear_shorts(const uint8_t *record, size_t record_size, uint8_t *buffer, size_t buffer_size, uint32_t *n,
-                                uint32_t *t);
+uint32_t reference_clear(const uint8_t *record, size_t record_size, uint8_t *buffer, size_t buffer_size, uint32_t *n, uint32_t *t);
 uint32_t reference_transaction(const uint8_t *list, size_t list_size, uint32_t index, uint32_t *offset, uint32_t *length);
 uint32_t reference_faults(uint32_t member, const uint8_t *bytes, size_t bytes_size, uint8_t *result, size_t result_size,
                           uint32_t *opens_agree, uint32_t *shorts_agree);

@@ -158,12 +158,12 @@ static void scenes(const struct world *world)
     expect(LP586X_NO_DOT, scene_call(world, scene, 196607));
 }
 
-/* Update, Reset and the Clears: 14, 10. */
+/* Update, Reset and Clear: 14, 10. */
 static void lists(const struct world *world)
 {
     struct outcome outcome;
 
-    for (enum kind kind = UPDATE; kind <= CLEAR_SHORTS; kind++) {
+    for (enum kind kind = UPDATE; kind <= CLEAR; kind++) {
         expect(LP586X_UNSOUND, unsound(list_call_of(world, kind, 0)));
         expect(LP586X_UNSOUND, unsound(list_call_of(world, kind, LP586X_UPDATE_SIZE)));
         expect(LP586X_BUFFER_SHORT, list_call_of(world, kind, 0));
@@ -176,6 +176,11 @@ static void lists(const struct world *world)
     check(outcome.needed == 14 && outcome.n == OUT_UNTOUCHED && outcome.t == OUT_UNTOUCHED, "needed is %u", outcome.needed);
     outcome = expect(LP586X_OK, list_call_of(world, UPDATE, 14));
     check(outcome.needed == OUT_UNTOUCHED && outcome.n == 2 && outcome.t == 6, "n is %u, t is %u", outcome.n, outcome.t);
+    expect(LP586X_OK, list_call_of(world, RESET, 9));
+    outcome = expect(LP586X_BUFFER_SHORT, list_call_of(world, CLEAR, 9));
+    check(outcome.needed == OUT_UNTOUCHED && outcome.n == OUT_UNTOUCHED && outcome.t == OUT_UNTOUCHED, "something is stored");
+    outcome = expect(LP586X_OK, list_call_of(world, CLEAR, 10));
+    check(outcome.needed == OUT_UNTOUCHED && outcome.n == 1 && outcome.t == 4, "n is %u, t is %u", outcome.n, outcome.t);
 }
 
 /* Faults: 1, 13, 10. */

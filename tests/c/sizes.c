@@ -49,12 +49,36 @@ static void buffer_sizes(struct world *world)
         check(outcome.answer == (size < 19 ? 10 : 0), "an update of 19 bytes: answers %u at %zu", outcome.answer, size);
         check(size >= 19 || outcome.needed == 19, "needed is %u", outcome.needed);
     }
-    for (enum kind kind = RESET; kind <= CLEAR_SHORTS; kind++) {
+    for (enum kind kind = RESET; kind <= CLEAR; kind++) {
         for (size_t size = 0; size <= 64; size++) {
             struct call call = list_call_of(world, kind, size);
 
-            check(both(&call).answer == (size < 9 ? 10 : 0), "%s", call_text(&call));
+            check(both(&call).answer == (size < (kind == RESET ? 9 : 10) ? 10 : 0), "%s", call_text(&call));
         }
+    }
+    check(LP586X_COMMAND_SIZE == 9 && LP586X_CLEAR_SIZE == 10, "the header has other sizes");
+}
+
+/* The same of Clear by the library alone: a refused call changes nothing, an accepted one the ten bytes of its list. */
+static void clear_buffers(const struct world *world)
+{
+    static const uint8_t list[LP586X_CLEAR_SIZE] = {1, 0, 4, 0, 4, 0, 0x80, 0xA7, 0x0F, 0x0F};
+
+    for (size_t size = 0; size <= 64; size++) {
+        uint8_t record[LP586X_RECORD_SIZE], buffer[64], expected[64];
+        uint32_t n = OUT_UNTOUCHED, t = OUT_UNTOUCHED, answer;
+        int taken = size >= sizeof list;
+
+        memcpy(record, world->record, sizeof record);
+        memset(buffer, 0xB5, sizeof buffer);
+        memset(expected, 0xB5, sizeof expected);
+        if (taken)
+            memcpy(expected, list, sizeof list);
+        answer = lp586x_clear(record, sizeof record, buffer, size, &n, &t);
+        check(answer == (taken ? 0 : 10), "clear: answers %u at %zu", answer, size);
+        check(n == (taken ? 1 : OUT_UNTOUCHED) && t == (taken ? 4 : OUT_UNTOUCHED), "clear: n is %u, t is %u at %zu", n, t, size);
+        check(memcmp(buffer, expected, sizeof buffer) == 0, "clear: other bytes in a buffer of %zu", size);
+        check(memcmp(record, world->record, sizeof record) == 0, "clear: changed the record at %zu", size);
     }
 }
 
@@ -89,8 +113,7 @@ static void sizes_beyond_32_bits(const struct world *world)
     memcpy(record, world->record, sizeof record);
     memcpy(chip, world->chip, sizeof chip);
     check(lp586x_reset(record, sizeof record, memory, four_gib, &n, &t) == 0, "reset, 2^32 bytes of buffer");
-    check(lp586x_clear_opens(record, sizeof record, memory, four_gib + 8, &n, &t) == 0, "clear_opens, 2^32 + 8");
-    check(lp586x_clear_shorts(record, sizeof record, memory, four_gib + 8, &n, &t) == 0, "clear_shorts, 2^32 + 8");
+    check(lp586x_clear(record, sizeof record, memory, four_gib + 9, &n, &t) == 0, "clear, 2^32 + 9");
     check(lp586x_update(record, sizeof record, memory, four_gib, &n, &t, &needed) == 0, "update, 2^32");
     check(lp586x_faults(0, small, 67, memory, four_gib + 197, &n, &t) == 0, "faults, a result of 2^32 + 197");
 
@@ -119,6 +142,7 @@ void group_sizes(void)
     world_set(&world, LAMP, 0, 2, 0x40);
     wrong_state_sizes(&world);
     buffer_sizes(&world);
+    clear_buffers(&world);
     result_sizes();
     sizes_beyond_32_bits(&world);
     group_done("");

@@ -52,8 +52,7 @@ static const char *const kind_names[] = {
     [POWER_LOST] = "power_lost",
     [UPDATE] = "update",
     [RESET] = "reset",
-    [CLEAR_OPENS] = "clear_opens",
-    [CLEAR_SHORTS] = "clear_shorts",
+    [CLEAR] = "clear",
     [FAULTS] = "faults",
     [CHIP_AT_RESET] = "chip_at_reset",
     [CHIP_POWER_LOST] = "chip_power_lost",
@@ -182,10 +181,8 @@ static uint32_t call_list(const struct interface *calls, const struct call *call
         return calls->update(record, size, buffer, buffer_size, n, t, needed);
     case RESET:
         return calls->reset(record, size, buffer, buffer_size, n, t);
-    case CLEAR_OPENS:
-        return calls->clear_opens(record, size, buffer, buffer_size, n, t);
     default:
-        return calls->clear_shorts(record, size, buffer, buffer_size, n, t);
+        return calls->clear(record, size, buffer, buffer_size, n, t);
     }
 }
 
@@ -214,7 +211,7 @@ static void perform(struct side *side, const struct call *call)
 
     if (call->kind <= POWER_LOST)
         side->answer = call_record(calls, call, state, input);
-    else if (call->kind <= CLEAR_SHORTS)
+    else if (call->kind <= CLEAR)
         side->answer = call_list(calls, call, state, buffer, n, t, needed);
     else if (call->kind == FAULTS)
         side->answer = calls->faults(call->numbers[0], input, call->input_size, buffer, call->buffer_size, n, t);
@@ -270,13 +267,13 @@ static void check_range(const struct call *call, int number)
     check(canaries_stand(ours) && canaries_stand(theirs), "%s: wrote outside %s", call_text(call), range_names[number]);
 }
 
-/* "as in the Clear calls, which leave the record unchanged"; scenes, lists and fault bytes are lent to be read. */
+/* Clear leaves the record unchanged; scenes, lists and fault bytes are lent to be read. */
 static void check_only_read(const struct call *call)
 {
     const struct side *ours = &sides[0];
 
     check(memcmp(ours->ranges[INPUT].bytes, before[INPUT], call->input_size) == 0, "%s: changed its input", call_text(call));
-    if (call->kind == CLEAR_OPENS || call->kind == CLEAR_SHORTS)
+    if (call->kind == CLEAR)
         check(memcmp(ours->ranges[STATE].bytes, before[STATE], call->state_size) == 0, "%s: changed the record",
               call_text(call));
 }

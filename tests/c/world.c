@@ -3,6 +3,7 @@
 #include <string.h>
 
 #include "check.h"
+#include "random.h"
 
 struct call record_call(const struct world *world, enum kind kind, uint32_t first, uint32_t second, uint32_t third)
 {
@@ -101,6 +102,12 @@ uint32_t world_feed(struct world *world, const uint8_t *list, size_t list_size)
 uint32_t world_chip_power_lost(struct world *world)
 {
     return keep_chip(world, chip_call(world, CHIP_POWER_LOST));
+}
+
+void world_any_faults(struct world *world)
+{
+    for (uint32_t i = 0; i < LP586X_FAULT_BYTES; i++)
+        world->chip[CHIP_REGISTERS + 0x064 + i] = (uint8_t)random_bits();
 }
 
 struct outcome world_sync(struct world *world)

@@ -19,11 +19,14 @@ void world_open(struct world *world, uint32_t member, uint32_t bus, uint32_t pin
 uint32_t world_set(struct world *world, enum kind kind, uint32_t first, uint32_t second, uint32_t third);
 uint32_t world_scene(struct world *world, const uint8_t *scene, size_t scene_size);
 
-/* UPDATE to CLEAR_SHORTS. */
+/* UPDATE to CLEAR. */
 struct outcome world_list(struct world *world, enum kind kind, size_t buffer_size);
 
 uint32_t world_feed(struct world *world, const uint8_t *list, size_t list_size);
 uint32_t world_chip_power_lost(struct world *world);
+
+/* Any bytes at 064h to 0A6h of the chip. */
+void world_any_faults(struct world *world);
 
 /* An update that must be accepted and is fed to the chip. */
 struct outcome world_sync(struct world *world);

@@ -32,7 +32,7 @@ use Rattle.chip.specs.declared.Fed.{Fed}
 use Rattle.chip.specs.declared.Opened.{Opened}
 use Rattle.chip.specs.declared.decode.Transaction.{Transaction}
 use Rattle.chip.specs.declared.decode.Transaction.the-variants.{Write, PassesBy}
-use Rattle.chip.specs.Chip.{chipOf, soundOf, powerLostOf, newChip, atResetOf, feedAnswer, selected, decodeOf, isOn, heard, merged, putByte, isCommand, clearOpens, clearShorts, heardByte, hearByte, hearData, hear, byTransaction, apply, applyAll, feedOf}
+use Rattle.chip.specs.Chip.{chipOf, soundOf, powerLostOf, newChip, atResetOf, feedAnswer, selected, decodeOf, isOn, heard, merged, putByte, isCommand, lodClear, lsdClear, heardByte, hearByte, hearData, hear, byTransaction, apply, applyAll, feedOf}
 use Rattle.chip.specs.ChipLaws.{data-none, data-reset, data-next, byte-length, apply-length}
 
 -- ---- chips that are sound, at reset, without power
@@ -151,11 +151,11 @@ unfolding heard
 hears-reset on a e n = rw (e, ne-eqb a 0 n) refl
 
 module _ (m a v : ℕ) (opens shorts : Bool) (old new : List ℕ) where
-  pub puts-opens : opens ≡ isCommand 0x0A7 0x0F a v → opens ≡ true → new ≡ clearOpens old → new ≡ heardByte m a v old
+  pub puts-opens : opens ≡ isCommand 0x0A7 0x0F a v → opens ≡ true → new ≡ lodClear old → new ≡ heardByte m a v old
   unfolding heardByte
   puts-opens e t q = q ∙ rw (sym e ∙ t) refl
 
-  pub puts-shorts : opens ≡ isCommand 0x0A7 0x0F a v → opens ≡ false → shorts ≡ isCommand 0x0A8 0x0F a v → shorts ≡ true → new ≡ clearShorts old →
+  pub puts-shorts : opens ≡ isCommand 0x0A7 0x0F a v → opens ≡ false → shorts ≡ isCommand 0x0A8 0x0F a v → shorts ≡ true → new ≡ lsdClear old →
       new ≡ heardByte m a v old
   unfolding heardByte
   puts-shorts e f d t q = q ∙ rw (sym e ∙ f, sym d ∙ t) refl

@@ -85,18 +85,18 @@ unfoldable pub isCommand : ℕ → ℕ → ℕ → ℕ → Bool
 isCommand address value a v = eqb a address && eqb v value
 
 -- "0Fh at 0A7h puts 065h-085h at 00h and clears 064h bit 1,"
-unfoldable pub clearOpens : List ℕ → List ℕ
-clearOpens rs = filled (λ a. 0) 0x065 33 (set rs 0x064 (bitAnd (getD rs 0x064 0) 0xFD))
+unfoldable pub lodClear : List ℕ → List ℕ
+lodClear rs = filled (λ a. 0) 0x065 33 (set rs 0x064 (bitAnd (getD rs 0x064 0) 0xFD))
 
 -- "at 0A8h it does so for 086h-0A6h and 064h bit 0;"
-unfoldable pub clearShorts : List ℕ → List ℕ
-clearShorts rs = filled (λ a. 0) 0x086 33 (set rs 0x064 (bitAnd (getD rs 0x064 0) 0xFE))
+unfoldable pub lsdClear : List ℕ → List ℕ
+lsdClear rs = filled (λ a. 0) 0x086 33 (set rs 0x064 (bitAnd (getD rs 0x064 0) 0xFE))
 
 -- what a byte that is heard does
 unfoldable pub heardByte : ℕ → ℕ → ℕ → List ℕ → List ℕ
 heardByte m a v rs =
-    cond (isCommand 0x0A7 0x0F a v) (clearOpens rs)
-    (cond (isCommand 0x0A8 0x0F a v) (clearShorts rs) (putByte m a v rs))
+    cond (isCommand 0x0A7 0x0F a v) (lodClear rs)
+    (cond (isCommand 0x0A8 0x0F a v) (lsdClear rs) (putByte m a v rs))
 
 -- "Data beyond 38Bh are dropped and the address never wraps."
 unfoldable pub hearByte : ℕ → Bool → ℕ → ℕ → List ℕ → List ℕ

@@ -22,7 +22,7 @@ use Rattle.burst.specs.Burst.{Burst, transactions}
 use Rattle.chip.specs.declared.Chip.{Chip}
 use Rattle.chip.specs.declared.decode.Transaction.{Transaction}
 use Rattle.chip.specs.declared.decode.Transaction.the-variants.{Write, PassesBy}
-use Rattle.chip.specs.Chip.{soundOf, powerLostOf, newChip, atResetOf, feedAnswer, decodeOf, isOn, heard, putByte, isCommand, clearOpens, clearShorts, heardByte, hearByte, hearData, hear, byTransaction, apply, applyAll, feedOf}
+use Rattle.chip.specs.Chip.{soundOf, powerLostOf, newChip, atResetOf, feedAnswer, decodeOf, isOn, heard, putByte, isCommand, lodClear, lsdClear, heardByte, hearByte, hearData, hear, byTransaction, apply, applyAll, feedOf}
 use Rattle.chip.specs.MergeLaws.{merged-byte, merged-keeps}
 
 -- ---- the property
@@ -75,12 +75,12 @@ either P true x y h k = h
 either P false x y h k = k
 
 -- a byte keeps what a store and both clears keep
-pub byte-keeps : (m : ℕ) (P : List ℕ → Type 0) (on : Bool) (a v : ℕ) (rs : List ℕ) → P (putByte m a v rs) → P (clearOpens rs) → P (clearShorts rs) → P rs →
+pub byte-keeps : (m : ℕ) (P : List ℕ → Type 0) (on : Bool) (a v : ℕ) (rs : List ℕ) → P (putByte m a v rs) → P (lodClear rs) → P (lsdClear rs) → P rs →
     P (hearByte m on a v rs)
 unfolding hearByte heardByte
 byte-keeps m P on a v rs put no-opens no-shorts h =
     either P (heard on a && leb a 0x38B) _ rs
-    (either P (isCommand 0x0A7 0x0F a v) (clearOpens rs) _ no-opens (either P (isCommand 0x0A8 0x0F a v) (clearShorts rs) (putByte m a v rs) no-shorts put)) h
+    (either P (isCommand 0x0A7 0x0F a v) (lodClear rs) _ no-opens (either P (isCommand 0x0A8 0x0F a v) (lsdClear rs) (putByte m a v rs) no-shorts put)) h
 
 -- ---- 908 registers
 
@@ -89,12 +89,12 @@ module _ (m : ℕ) where
   unfolding putByte
   sized-put a v rs = length-set rs a _
 
-  sized-opens : (rs : List ℕ) → length (clearOpens rs) ≡ length rs
-  unfolding clearOpens
+  sized-opens : (rs : List ℕ) → length (lodClear rs) ≡ length rs
+  unfolding lodClear
   sized-opens rs = filled-length (λ a. 0) 0x065 33 _ ∙ length-set rs 0x064 _
 
-  sized-shorts : (rs : List ℕ) → length (clearShorts rs) ≡ length rs
-  unfolding clearShorts
+  sized-shorts : (rs : List ℕ) → length (lsdClear rs) ≡ length rs
+  unfolding lsdClear
   sized-shorts rs = filled-length (λ a. 0) 0x086 33 _ ∙ length-set rs 0x064 _
 
   pub byte-length : (on : Bool) (a v : ℕ) (rs : List ℕ) → length (hearByte m on a v rs) ≡ length rs
@@ -165,13 +165,13 @@ module _ (m : ℕ) where
   zero-registers rs a (suc n) l h s =
       fault-registers (filled (λ k. 0) a n rs) (a + n) 0 (omega arith) (omega arith) (zero-registers rs a n l (omega arith) s)
 
-  opens-registers : (rs : List ℕ) → Registers m rs → Registers m (clearOpens rs)
-  unfolding clearOpens
+  opens-registers : (rs : List ℕ) → Registers m rs → Registers m (lodClear rs)
+  unfolding lodClear
   opens-registers rs s =
       zero-registers _ 0x065 33 (omega arith) (omega arith) (fault-registers rs 0x064 _ (omega arith) (omega arith) s)
 
-  shorts-registers : (rs : List ℕ) → Registers m rs → Registers m (clearShorts rs)
-  unfolding clearShorts
+  shorts-registers : (rs : List ℕ) → Registers m rs → Registers m (lsdClear rs)
+  unfolding lsdClear
   shorts-registers rs s =
       zero-registers _ 0x086 33 (omega arith) (omega arith) (fault-registers rs 0x064 _ (omega arith) (omega arith) s)
 

@@ -6,7 +6,7 @@ ghost use lib.ListN.{length};
 ghost use Rattle.map.specs.Map.{linesOf, columnsOf};
 ghost use Rattle.map.specs.Lists.{filled};
 ghost use Rattle.map.specs.Images.{resetImage};
-ghost use Rattle.chip.specs.Chip.{isOn, heard, merged, isCommand, clearOpens, clearShorts, heardByte, hearByte, hearData};
+ghost use Rattle.chip.specs.Chip.{isOn, heard, merged, isCommand, lodClear, lsdClear, heardByte, hearByte, hearData};
 use crate::masks::dot_mask;
 use crate::masks::low_mask;
 
@@ -28,18 +28,18 @@ fn zero_from(registers: &mut [u8], from: usize, n: usize)
     }
 }
 
-fn clear_opens(registers: &mut [u8])
+fn lod_clear(registers: &mut [u8])
     requires { ⌜ length (now registers) ≡ 908 ⌝ }
-    ensures { λ _. ⌜ now (registers .exit) ≡ clearOpens (now (registers .entry)) ⌝ }
+    ensures { λ _. ⌜ now (registers .exit) ≡ lodClear (now (registers .entry)) ⌝ }
 {
     let faults = registers[0x064];
     registers[0x064] = faults & 0xFD;
     zero_from(registers, 0x065, 33);
 }
 
-fn clear_shorts(registers: &mut [u8])
+fn lsd_clear(registers: &mut [u8])
     requires { ⌜ length (now registers) ≡ 908 ⌝ }
-    ensures { λ _. ⌜ now (registers .exit) ≡ clearShorts (now (registers .entry)) ⌝ }
+    ensures { λ _. ⌜ now (registers .exit) ≡ lsdClear (now (registers .entry)) ⌝ }
 {
     let faults = registers[0x064];
     registers[0x064] = faults & 0xFE;
@@ -81,11 +81,11 @@ fn put_low(
     ensures { λ _. ⌜ now (registers .exit) ≡ heardByte member address value (now (registers .entry)) ⌝ }
 {
     if commands(0x0A7, 0x0F, address, value) {
-        clear_opens(registers);
+        lod_clear(registers);
         return;
     }
     if commands(0x0A8, 0x0F, address, value) {
-        clear_shorts(registers);
+        lsd_clear(registers);
         return;
     }
     let old = registers[address];

@@ -11,7 +11,7 @@ use Rattle.host.specs.declared.Record.{Record}
 use Rattle.update.specs.declared.ListAnswer.{ListAnswer}
 use Rattle.update.specs.declared.ListAnswer.the-variants.{Listed, Short, Refused}
 use Rattle.update.specs.declared.Updated.{Updated}
-use Rattle.update.specs.Update.{isListed, Sending, sendAnswer, sendOf, sendBuffer, clearingShorts, clearOf}
+use Rattle.update.specs.Update.{isListed, Sending, sendAnswer, sendOf, sendBuffer}
 use Rattle.update.specs.SendLaws.{Answered, answered}
 use Rattle.chip.specs.declared.Chip.{Chip}
 use Rattle.chip.specs.declared.Fed.{Fed}
@@ -62,8 +62,3 @@ listed-is x buffer c fed e =
 pub sent-is : (x : Record → Sending) (w : World) (old new : List ℕ) (u : Updated) (s : Stepped) → leaving s new ≡ listStep u new (w .chip) →
     u ≡ sendOf (w .host) (x (w .host)) (length old) → new ≡ sendBuffer (w .host) (x (w .host)) old → leaving s new ≡ sendStep w (x (w .host)) old
 sent-is x w old new u s e a l = e ∙ ap₂ (λ (y : Updated) (k : List ℕ). listStep y k (w .chip)) a l
-
--- both Clears answer alike and leave the record
-pub clear-same : (r : Record) (size : ℕ) → clearOf r size ≡ sendOf r (clearingShorts r) size
-unfolding sendOf sendAnswer
-clear-same r size = refl

@@ -18,12 +18,12 @@ use Rattle.calls.specs.declared.Request.the-variants.{Set, Reset, PowerLost, Up
 use Rattle.host.specs.Record.{soundOf, putSetting}
 use Rattle.update.specs.declared.ListAnswer.the-variants as lists
 use Rattle.update.specs.Update.{sendAnswer, sendOf, sendBuffer}
-use Rattle.chip.specs.Chip.{feedAnswer, selected, decodeOf, heard, isCommand, clearOpens, clearShorts, heardByte, hearByte, hearData, hear, apply, applyAll, feedOf}
+use Rattle.chip.specs.Chip.{feedAnswer, selected, decodeOf, heard, isCommand, lodClear, lsdClear, heardByte, hearByte, hearData, hear, apply, applyAll, feedOf}
 use Rattle.history.specs.declared.World.{World}
 use Rattle.history.specs.declared.CallAnswer.{CallAnswer}
 use Rattle.history.specs.declared.CallAnswer.the-variants as answers
 use Rattle.history.specs.Ledger.{registerMeets, lampMeets, fieldMeets, settingMeets, Told, toldOf, ledger, wantsOn, openedLedger, enteredOf}
-use Rattle.history.specs.Step.{callNumbers, listIn, stepOf, clearOpensStep, clearShortsStep}
+use Rattle.history.specs.Step.{callNumbers, listIn, stepOf, clearStep}
 
 -- "a definition states this paper's number and values for each case of the enum"
 call-answers : List CallAnswer
@@ -81,18 +81,13 @@ settings-asked : map (λ (a : ℕ). getD (ledger 0 calls) a 0) (0x000 ∷ 0x001 
 unfolding calls settingMeets putSetting registerMeets lampMeets fieldMeets okByte writableOf reservedOf reservedAs kindOf linesOf columnsOf hasColumn dotIn isDot numberIn addressOf shiftOf widthOf dataMode isWide firstMasks firstMask pwmReserved wideOf topLevel putLevel putBits putField resetImage table tableFrom resetOf resetAs firstReset switchBytesOf switchReset currentReset
 settings-asked = refl
 
--- ---- The Clears
+-- ---- Clear
 
 -- a record and a chip that are sound, on I2C with pins 0, and the chip is on
 module _ (w : World) (sound : soundOf (w .host) ≡ true) (bus : w .host .header .bus ≡ 0) (pins : w .host .header .pins ≡ 0)
     (chip-sound : Rattle.chip.specs.Chip.soundOf (w .chip) ≡ true) (chip-bus : w .chip .bus ≡ 0) (chip-pins : w .chip .pins ≡ 0)
     (on : getD (w .chip .registers) 0x000 0 ≡ 0x01) where
-  -- "0Fh to 0A7h": what the list of a Clear opens does to the chip, and the record stays
-  opens-cleared : (clearOpensStep w (replicate 9 0xA5) .world .chip .registers ≡ clearOpens (w .chip .registers)) × (clearOpensStep w (replicate 9 0xA5) .world .host ≡ w .host)
+  -- "one write of 0Fh 0Fh from 0A7h": its list puts out the open bits and then the short bits, and the record stays
+  faults-cleared : (clearStep w (replicate 10 0xA5) .world .chip .registers ≡ lsdClear (lodClear (w .chip .registers))) × (clearStep w (replicate 10 0xA5) .world .host ≡ w .host)
   unfolding sendOf sendAnswer sendBuffer encode listOf transactionOf headFirst headSecond feedOf feedAnswer sizesGood lengthsGood transactions cutFrom lengths lengthsFrom nOf tOf size16 byteAt applyAll apply decodeOf selected headAddress headWrites headSelect hear hearData hearByte heardByte heard isCommand
-  opens-cleared = rw (sound, bus, pins, chip-sound, chip-bus, chip-pins, on) (refl, refl)
-
-  -- "or to 0A8h."
-  shorts-cleared : (clearShortsStep w (replicate 9 0xA5) .world .chip .registers ≡ clearShorts (w .chip .registers)) × (clearShortsStep w (replicate 9 0xA5) .world .host ≡ w .host)
-  unfolding sendOf sendAnswer sendBuffer encode listOf transactionOf headFirst headSecond feedOf feedAnswer sizesGood lengthsGood transactions cutFrom lengths lengthsFrom nOf tOf size16 byteAt applyAll apply decodeOf selected headAddress headWrites headSelect hear hearData hearByte heardByte heard isCommand
-  shorts-cleared = rw (sound, bus, pins, chip-sound, chip-bus, chip-pins, on) (refl, refl)
+  faults-cleared = rw (sound, bus, pins, chip-sound, chip-bus, chip-pins, on) (refl, refl)

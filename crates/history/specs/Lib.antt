@@ -9,5 +9,7 @@ pub mod Theorem
 pub mod Recovery
 pub mod RecoveryLaws
 pub mod Lamps
+pub mod Clear
+pub mod ClearLaws
 pub mod HistoryExamples
 pub mod RecoveryExamples

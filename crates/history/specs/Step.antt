@@ -13,7 +13,7 @@ use Rattle.host.specs.Record.{settingOf, powerLostOf}
 use Rattle.update.specs.declared.ListAnswer.{ListAnswer}
 use Rattle.update.specs.declared.ListAnswer.the-variants.{Listed, Short, Refused}
 use Rattle.update.specs.declared.Updated.{Updated}
-use Rattle.update.specs.Update.{listNumbers, Sending, sendOf, sendBuffer, updating, resetting, clearingOpens, clearingShorts}
+use Rattle.update.specs.Update.{listNumbers, Sending, sendOf, sendBuffer, updating, resetting, clearing}
 use Rattle.chip.specs.declared.Chip.{Chip}
 use Rattle.chip.specs.Chip.{feedOf}
 use Rattle.history.specs.declared.World.{World}
@@ -85,12 +85,8 @@ stepOf w Reset lent = sendStep w (resetting (w .host)) lent
 stepOf w PowerLost lent = changeStep (powerLostOf (w .host)) (Rattle.chip.specs.Chip.powerLostOf (w .chip)) lent
 stepOf w Update lent = sendStep w (updating (w .host)) lent
 
--- ---- The Clears, which are no calls of the list of demand 3
+-- ---- Clear, which is no call of the list of demand 3
 
--- Clear opens: its list is fed as that of a Reset is
-abbrev pub clearOpensStep : World → List ℕ → Step
-clearOpensStep w buffer = sendStep w (clearingOpens (w .host)) buffer
-
--- Clear shorts likewise
-abbrev pub clearShortsStep : World → List ℕ → Step
-clearShortsStep w buffer = sendStep w (clearingShorts (w .host)) buffer
+-- its list is fed as that of a Reset is
+abbrev pub clearStep : World → List ℕ → Step
+clearStep w buffer = sendStep w (clearing (w .host)) buffer

@@ -10,7 +10,7 @@ mod ledgers;
 ghost use mathlib.Core.Path.{_≡_};
 ghost use mathlib.Core.List.{List};
 ghost use Prim.Native.Nat.{ℕ};
-ghost use Rattle.history.specs.Step.{callNumbers, leaving, changeStep, stepOf, clearOpensStep, clearShortsStep};
+ghost use Rattle.history.specs.Step.{callNumbers, leaving, changeStep, stepOf, clearStep};
 ghost use Rattle.history.specs.Ledger.{toldOf, openedLedger, enteredOf};
 use calls::Request;
 use chip::Chip;
@@ -93,23 +93,13 @@ fn changed(changed: Changed, chip: Chip) -> Stepped
     }
 }
 
-// Clear opens on a world. It is no call of the claim about whole lists.
-pub fn clear_opens(world: World, buffer: &mut [u8]) -> Stepped
-    ensures { λ r. ⌜ leaving r (now (buffer .exit)) ≡ clearOpensStep world (now (buffer .entry)) ⌝ }
+// Clear on a world. It is no call of the claim about whole lists.
+pub fn clear(world: World, buffer: &mut [u8]) -> Stepped
+    ensures { λ r. ⌜ leaving r (now (buffer .exit)) ≡ clearStep world (now (buffer .entry)) ⌝ }
 {
     let host = world.host;
     let chip = world.chip;
-    let updated = update::clear_opens(host, buffer);
-    feeding::listed(updated, chip, buffer)
-}
-
-// Clear shorts likewise.
-pub fn clear_shorts(world: World, buffer: &mut [u8]) -> Stepped
-    ensures { λ r. ⌜ leaving r (now (buffer .exit)) ≡ clearShortsStep world (now (buffer .entry)) ⌝ }
-{
-    let host = world.host;
-    let chip = world.chip;
-    let updated = update::clear_shorts(host, buffer);
+    let updated = update::clear(host, buffer);
     feeding::listed(updated, chip, buffer)
 }
 

@@ -1,27 +1,29 @@
--- The fixed strings of Reset and the Clears, and the records that the calls by value give back.
+-- The fixed strings of Reset and Clear, and the records that the calls by value give back.
 -- Assumes nothing.
 use mathlib.Core.Path.{_≡_, refl, sym, ap, _∙_}
 use mathlib.Core.Bool.{Bool, true, false, cond}
 use mathlib.Core.List.{List}
-use Prim.Native.Nat.{ℕ, _+_, _*_, _/_, _%_, _<_, _≤_}
+use Prim.Native.Nat.{ℕ, _+_, _-_, _*_, _/_, _%_, _<_, _≤_}
 use native.Mathlib.Omega.{arith}
 use borrow.Author.Tests.{eq-eqb, ne-eqb, eqb-true}
 use lib.Dec.{eqb}
 use lib.Bits.{bitOr}
 use lib.ListN.{length, getD, set, take, drop}
-use lib.Seq.{sets}
+use lib.Seq.{sets, take-length}
 use Rattle.map.specs.declared.refusals.Refusal.the-variants.{Unsound, BufferShort}
 use Rattle.map.specs.Lists.{allFrom}
 use Rattle.map.specs.ListLaws.{all-at}
 use Rattle.map.specs.Images.{resetImage}
 use Rattle.burst.specs.Burst.{headFirst, headSecond, transactionOf, listOf, encode}
+use Rattle.burst.specs.BurstLaws.{encode-length}
+use Rattle.host.specs.declared.Header.{Header}
 use Rattle.host.specs.declared.Record.{Record}
 use Rattle.host.specs.Record.{recordOf, soundOf}
 use Rattle.writes.specs.WrittenLaws.{sets-front}
 use Rattle.update.specs.declared.ListAnswer.{ListAnswer}
 use Rattle.update.specs.declared.ListAnswer.the-variants.{Listed, Refused}
-use Rattle.update.specs.Update.{isListed, over, sendOf, sendBuffer, commandWrite, command, resetting, clearingOpens, commandAnswer, chipResetOf, clearOf}
-use Rattle.update.specs.SendLaws.{send-unsound, send-short, send-listed, sent-is, command-answers, clear-leaves}
+use Rattle.update.specs.Update.{isListed, listSize, over, sendAnswer, sendOf, sendBuffer, commandWrite, command, resetAnswer, chipResetOf, clearing, clearAnswer, clearOf}
+use Rattle.update.specs.SendLaws.{send-unsound, send-short, send-listed, sent-is, clear-leaves}
 
 -- ---- the strings
 
@@ -36,54 +38,64 @@ pins-in pins a = at (4 * (a / 256 % 4) + pins % 4) (a / 256 % 4) (pins % 4) (ome
     at : (k x p : ℕ) → k < 16 → k / 4 ≡ x → k % 4 ≡ p → bitOr (0x80 + 2 * x) (8 * p) ≡ 0x80 + 8 * p + 2 * x
     at k x p h ex ep = rw (sym ex, sym ep) (eqb-true (bitOr (0x80 + 2 * (k / 4)) (8 * (k % 4))) (0x80 + 8 * (k % 4) + 2 * (k / 4)) (all-at pins-test 0 16 refl k (omega arith) h))
 
-module _ (bus pins : ℕ) (i2c spi : List ℕ) where
-  -- a list, where the strings are those of the write of v to a
-  abbrev pub ListFor : List ℕ → Type 0
-  ListFor string =
-      (a v : ℕ) → i2c ≡ encode 0 0 (commandWrite a v) → spi ≡ encode 1 0 (commandWrite a v) → string ≡ encode bus pins (commandWrite a v)
+module _ (header : Header) (i2c spi buffer : List ℕ) where
+  -- the buffer with the string of the record's bus in front, where the strings are those of one write and the buffer has room
+  abbrev pub InFront : List ℕ → Type 0
+  InFront new =
+      (a : ℕ) (bytes : List ℕ) → i2c ≡ encode 0 0 (commandWrite a bytes) → spi ≡ encode 1 0 (commandWrite a bytes) → length i2c ≤ length buffer →
+      new ≡ over (encode (header .bus) (header .pins) (commandWrite a bytes)) buffer
 
-  pub i2c-string : bus ≡ 0 → ListFor (set i2c 6 (bitOr (getD i2c 6 0) (8 * (pins % 4))))
+  -- a string, copied to the front
+  copied : (string : List ℕ) → length string ≤ length buffer → sets buffer 0 (take (length string) (drop 0 string)) ≡ over string buffer
+  copied string h = ap (sets buffer 0) (take-length string) ∙ sets-front string buffer h
+
+  pub i2c-put : (copy : List ℕ) → copy ≡ sets buffer 0 (take (length i2c) (drop 0 i2c)) → header .bus ≡ 0 →
+      InFront (set copy 6 (bitOr (getD copy 6 0) (8 * (header .pins % 4))))
   unfolding encode listOf transactionOf
-  i2c-string z a v e f = rw (z, e, pins-in pins a) refl
+  i2c-put copy c z a bytes e f h =
+      rw (c ∙ copied i2c h, e, z) (rw (pins-in (header .pins) a) refl)
 
-  pub spi-string : (bus ≡ 0 → ⊥) → ListFor spi
+  pub spi-put : (copy : List ℕ) → copy ≡ sets buffer 0 (take (length spi) (drop 0 spi)) → (header .bus ≡ 0 → ⊥) → InFront copy
   unfolding encode listOf transactionOf headFirst headSecond
-  spi-string n a v e f = rw (f, ne-eqb bus 0 n) refl
+  spi-put copy c n a bytes e f h =
+      c ∙ copied spi (omega (arith, ap length e ∙ encode-length 0 0 (commandWrite a bytes), ap length f ∙ encode-length 1 0 (commandWrite a bytes))) ∙ rw (f, ne-eqb (header .bus) 0 n) refl
 
 -- ---- a command
 
 module _ (r : Record) (buffer i2c spi : List ℕ) where
-  -- the buffer after a command, for the write of v to a that the strings are of
-  abbrev pub Ordered : List ℕ → Type 0
-  Ordered new =
-      (a v : ℕ) (image : List ℕ) → i2c ≡ encode 0 0 (commandWrite a v) → spi ≡ encode 1 0 (commandWrite a v) → new ≡ sendBuffer r (command a v image) buffer
+  -- the answer and the buffer of a command, where the strings are those of its write
+  abbrev pub Ordered : ListAnswer → List ℕ → Type 0
+  Ordered answer new =
+      (a : ℕ) (bytes image : List ℕ) → i2c ≡ encode 0 0 (commandWrite a bytes) → spi ≡ encode 1 0 (commandWrite a bytes) →
+      (answer ≡ sendAnswer r (command a bytes image) (length buffer)) × (new ≡ sendBuffer r (command a bytes image) buffer)
 
-  pub command-unsound : soundOf r ≡ false → (Refused Unsound ≡ commandAnswer r (length buffer)) × Ordered buffer
-  command-unsound e = (send-unsound r (resetting r) buffer e .answer-is, λ a v i p q. send-unsound r (command a v i) buffer e .buffer-is)
+  -- the I2C string is as long as the list
+  sized : (a : ℕ) (bytes : List ℕ) → i2c ≡ encode 0 0 (commandWrite a bytes) → length i2c ≡ listSize (commandWrite a bytes)
+  sized a bytes e = ap length e ∙ encode-length 0 0 (commandWrite a bytes)
 
-  pub command-short : soundOf r ≡ true → length buffer < 9 → (Refused BufferShort ≡ commandAnswer r (length buffer)) × Ordered buffer
-  command-short e h = (send-short r (resetting r) buffer refl e h .answer-is, λ a v i p q. send-short r (command a v i) buffer refl e h .buffer-is)
+  pub command-unsound : soundOf r ≡ false → Ordered (Refused Unsound) buffer
+  command-unsound u a bytes image e f = let l = send-unsound r (command a bytes image) buffer u in (l .answer-is, l .buffer-is)
 
-  pub command-listed : (string new : List ℕ) → soundOf r ≡ true → 9 ≤ length buffer → ListFor (r .header .bus) (r .header .pins) i2c spi string →
-      new ≡ sets buffer 0 (take 9 (drop 0 string)) → (Listed 1 3 ≡ commandAnswer r (length buffer)) × Ordered new
-  unfolding encode listOf transactionOf
-  command-listed string new e h s n =
-      let put : (a v : ℕ) → string ≡ encode (r .header .bus) (r .header .pins) (commandWrite a v) → new ≡ over (encode (r .header .bus) (r .header .pins) (commandWrite a v)) buffer =
-      λ a v l. n ∙ rw l (sets-front (encode (r .header .bus) (r .header .pins) (commandWrite a v)) buffer h) in
-      (send-listed r (resetting r) buffer e h .answer-is, λ a v i p q. put a v (s a v p q) ∙ send-listed r (command a v i) buffer e h .buffer-is)
+  pub command-short : soundOf r ≡ true → length buffer < length i2c → Ordered (Refused BufferShort) buffer
+  command-short s h a bytes image e f =
+      let l = send-short r (command a bytes image) buffer refl s (omega (arith, sized a bytes e)) in
+      (l .answer-is, l .buffer-is)
+
+  pub command-listed : (new : List ℕ) → soundOf r ≡ true → length i2c ≤ length buffer → InFront (r .header) i2c spi buffer new →
+      Ordered (Listed 1 (length i2c - 6)) new
+  command-listed new s h put a bytes image e f =
+      let l = send-listed r (command a bytes image) buffer s (omega (arith, sized a bytes e)) in
+      (ap (Listed 1) (omega (arith, sized a bytes e)) ∙ l .answer-is, put a bytes e f h ∙ l .buffer-is)
 
 -- ---- the calls by value
 
-module _ (r : Record) (size : ℕ) (answer : ListAnswer) (e : answer ≡ commandAnswer r size) where
-  pub clear-is : record { answer = answer; host = r } ≡ clearOf r size
-  clear-is =
-      sent-is r (clearingOpens r) size answer (r .image) (e ∙ sym (command-answers r 0x0A7 0x0F (r .image) size))
-      (ap (λ (h : Record). h .image) (sym (clear-leaves r size)))
+pub clear-is : (r : Record) (size : ℕ) (answer : ListAnswer) → answer ≡ clearAnswer r size → record { answer = answer; host = r } ≡ clearOf r size
+clear-is r size answer e = sent-is r (clearing r) size answer (r .image) e (ap (λ (h : Record). h .image) (sym (clear-leaves r size)))
 
-  pub reset-is : (image : List ℕ) → image ≡ cond (isListed answer) (resetImage (r .header .member)) (r .image) →
-      record { answer = answer; host = recordOf (r .header) (r .settings) image } ≡ chipResetOf r size
-  unfolding sendOf
-  reset-is image i = rw (i, e) refl
+pub reset-is : (r : Record) (size : ℕ) (answer : ListAnswer) → answer ≡ resetAnswer r size → (image : List ℕ) → image ≡ cond (isListed answer) (resetImage (r .header .member)) (r .image) →
+    record { answer = answer; host = recordOf (r .header) (r .settings) image } ≡ chipResetOf r size
+unfolding sendOf
+reset-is r size answer e image i = rw (i, e) refl
 
 pub reset-own : (answer : ListAnswer) (n t : ℕ) (image values new : List ℕ) → answer ≡ Listed n t → length image ≡ 908 →
     new ≡ cond (eqb (length image) 908) values image → new ≡ cond (isListed answer) values image

@@ -16,7 +16,7 @@ use Rattle.host.specs.Record.{recordOf, soundOf}
 use Rattle.host.specs.SoundLaws.{Sound, chosen}
 use Rattle.update.specs.declared.ListAnswer.{ListAnswer}
 use Rattle.update.specs.declared.ListAnswer.the-variants.{Listed, Short, Refused}
-use Rattle.update.specs.Update.{isListed, listSize, over, Sending, sendAnswer, sendOf, sendBuffer, command, commandAnswer, clearOf}
+use Rattle.update.specs.Update.{isListed, listSize, over, Sending, sendAnswer, sendOf, sendBuffer, clearOf}
 
 module _ (r : Record) (x : Sending) where
   -- what the call leaves, by its answer: its answer, the chip image and the buffer
@@ -106,14 +106,9 @@ module _ (r : Record) (x : Sending) where
     image = chosen (r .header .member) (isListed (sendAnswer r x size)) (x .image) (r .image) (λ t. i) (s .image);
   }
 
--- ---- commands
+-- ---- Clear
 
--- every command answers alike
-pub command-answers : (r : Record) (a v : ℕ) (image : List ℕ) (size : ℕ) → sendAnswer r (command a v image) size ≡ commandAnswer r size
-unfolding sendAnswer
-command-answers r a v image size = refl
-
--- "the Clear calls, which leave the record unchanged."
+-- "the Clear calls, which leave the record unchanged.": the one that they have become does so too
 pub clear-leaves : (r : Record) (size : ℕ) → clearOf r size .host ≡ r
 unfolding sendOf
 clear-leaves r size = go (isListed (clearOf r size .answer))

@@ -1,5 +1,5 @@
--- Update, Reset and the Clears: document 01, "Burst lists" and "Lamp faults". Each sends some writes, and sending is defined once, in
--- three parts: the answer, the record that the call returns with it, and the buffer as it leaves it.
+-- Update and Reset: document 01, "Burst lists"; Clear: document 02, Q-1. Each sends some writes, and sending is defined once, in three
+-- parts: the answer, the record that the call returns with it, and the buffer as it leaves it.
 -- Assumes nothing.
 use mathlib.Core.Bool.{Bool, true, false, cond}
 use mathlib.Core.List.{List, [], _∷_, _++_}
@@ -91,31 +91,22 @@ updateOf r size = sendOf r (updating r) size
 abbrev pub updateBuffer : Record → List ℕ → List ℕ
 updateBuffer r buffer = sendBuffer r (updating r) buffer
 
--- ---- Reset and the Clears
+-- ---- Reset and Clear
 
--- one write of one byte
-abbrev pub commandWrite : ℕ → ℕ → List Burst
-commandWrite a v = record { start = a; bytes = v ∷ [] } ∷ []
+-- one write
+abbrev pub commandWrite : ℕ → List ℕ → List Burst
+commandWrite a bytes = record { start = a; bytes = bytes } ∷ []
 
--- "10: under 9 bytes", which "carries only its number"
-abbrev pub command : ℕ → ℕ → List ℕ → Sending
-command a v image = record { writes = commandWrite a v; short = Refused BufferShort; image = image }
+-- a buffer that is too short is refused with 10, which "carries only its number"
+abbrev pub command : ℕ → List ℕ → List ℕ → Sending
+command a bytes image = record { writes = commandWrite a bytes; short = Refused BufferShort; image = image }
 
--- Reset: "One write of FFh to 0A9h". "After either, the chip image has reset values and the settings are kept."
+-- Reset: "10: under 9 bytes. One write of FFh to 0A9h". "After either, the chip image has reset values and the settings are kept."
 abbrev pub resetting : Record → Sending
-resetting r = command 0x0A9 0xFF (resetImage (r .header .member))
+resetting r = command 0x0A9 (0xFF ∷ []) (resetImage (r .header .member))
 
--- Clear opens: "one write of 0Fh to 0A7h,"
-abbrev pub clearingOpens : Record → Sending
-clearingOpens r = command 0x0A7 0x0F (r .image)
-
--- Clear shorts: "or to 0A8h." The Clears "leave the record unchanged"
-abbrev pub clearingShorts : Record → Sending
-clearingShorts r = command 0x0A8 0x0F (r .image)
-
--- "n and t answered, as in the Clear calls": what any command answers
-abbrev pub commandAnswer : Record → ℕ → ListAnswer
-commandAnswer r size = sendAnswer r (resetting r) size
+abbrev pub resetAnswer : Record → ℕ → ListAnswer
+resetAnswer r size = sendAnswer r (resetting r) size
 
 abbrev pub chipResetOf : Record → ℕ → Updated
 chipResetOf r size = sendOf r (resetting r) size
@@ -123,12 +114,16 @@ chipResetOf r size = sendOf r (resetting r) size
 abbrev pub resetBuffer : Record → List ℕ → List ℕ
 resetBuffer r buffer = sendBuffer r (resetting r) buffer
 
--- either Clear: their lists have one length, and neither changes the record
+-- Clear: "one write of 0Fh 0Fh from 0A7h, four bus bytes. It needs a buffer of 10 bytes, else 10." As document 01's Clear calls, it
+-- leaves "the record unchanged."
+abbrev pub clearing : Record → Sending
+clearing r = command 0x0A7 (0x0F ∷ 0x0F ∷ []) (r .image)
+
+abbrev pub clearAnswer : Record → ℕ → ListAnswer
+clearAnswer r size = sendAnswer r (clearing r) size
+
 abbrev pub clearOf : Record → ℕ → Updated
-clearOf r size = sendOf r (clearingOpens r) size
+clearOf r size = sendOf r (clearing r) size
 
-abbrev pub clearOpensBuffer : Record → List ℕ → List ℕ
-clearOpensBuffer r buffer = sendBuffer r (clearingOpens r) buffer
-
-abbrev pub clearShortsBuffer : Record → List ℕ → List ℕ
-clearShortsBuffer r buffer = sendBuffer r (clearingShorts r) buffer
+abbrev pub clearBuffer : Record → List ℕ → List ℕ
+clearBuffer r buffer = sendBuffer r (clearing r) buffer

@@ -11,7 +11,7 @@ use Rattle.host.specs.declared.Record.{Record}
 use Rattle.host.specs.Record.{soundOf}
 use Rattle.update.specs.declared.ListAnswer.{ListAnswer}
 use Rattle.update.specs.declared.ListAnswer.the-variants.{Listed, Short, Refused}
-use Rattle.update.specs.Update.{listNumbers, listNumber, isListed, listSize, over, Sending, sendAnswer, sendBuffer, writesOf, updateAnswer, commandAnswer, resetBuffer, clearOpensBuffer, clearShortsBuffer}
+use Rattle.update.specs.Update.{listNumbers, listNumber, isListed, listSize, over, Sending, sendAnswer, sendBuffer, writesOf, updateAnswer, resetAnswer, resetBuffer, clearAnswer, clearBuffer}
 
 -- "a definition states this paper's number and values for each case of the enum": n and t; the length needed; "only its number"
 answers : List ListAnswer
@@ -52,24 +52,25 @@ module _ (r : Record) (sound : soundOf r ≡ true) where
   unfolding sendAnswer bench
   update-answers e = rw (sound, e) (refl, refl)
 
-  -- Reset and the Clears: "10: under 9 bytes.", which "carries only its number"
-  command-answers : (commandAnswer r 8 ≡ Refused BufferShort) × (commandAnswer r 9 ≡ Listed 1 3)
+  -- Reset: "10: under 9 bytes.", which "carries only its number"
+  reset-answers : (resetAnswer r 8 ≡ Refused BufferShort) × (resetAnswer r 9 ≡ Listed 1 3)
   unfolding sendAnswer
-  command-answers = rw sound (refl, refl)
+  reset-answers = rw sound (refl, refl)
 
   -- "its 9 list bytes are written and no others": on I2C with pins 3, "One write of FFh to 0A9h"
   reset-bytes : r .header .bus ≡ 0 → r .header .pins ≡ 3 → resetBuffer r (replicate 10 0xA5) ≡ 0x01 ∷ 0x00 ∷ 0x03 ∷ 0x00 ∷ 0x03 ∷ 0x00 ∷ 0x98 ∷ 0xA9 ∷ 0xFF ∷ 0xA5 ∷ []
   unfolding sendBuffer sendAnswer encode listOf transactionOf headFirst headSecond
   reset-bytes b p = rw (sound, b, p) refl
 
-  -- "one write of 0Fh to 0A7h, or to 0A8h."
-  clear-opens-bytes : r .header .bus ≡ 0 → r .header .pins ≡ 3 → clearOpensBuffer r (replicate 10 0xA5) ≡ 0x01 ∷ 0x00 ∷ 0x03 ∷ 0x00 ∷ 0x03 ∷ 0x00 ∷ 0x98 ∷ 0xA7 ∷ 0x0F ∷ 0xA5 ∷ []
-  unfolding sendBuffer sendAnswer encode listOf transactionOf headFirst headSecond
-  clear-opens-bytes b p = rw (sound, b, p) refl
+  -- Clear: "It needs a buffer of 10 bytes, else 10."; "four bus bytes"
+  clear-answers : (clearAnswer r 9 ≡ Refused BufferShort) × (clearAnswer r 10 ≡ Listed 1 4)
+  unfolding sendAnswer
+  clear-answers = rw sound (refl, refl)
 
-  clear-shorts-bytes : r .header .bus ≡ 0 → r .header .pins ≡ 3 → clearShortsBuffer r (replicate 10 0xA5) ≡ 0x01 ∷ 0x00 ∷ 0x03 ∷ 0x00 ∷ 0x03 ∷ 0x00 ∷ 0x98 ∷ 0xA8 ∷ 0x0F ∷ 0xA5 ∷ []
+  -- "one write of 0Fh 0Fh from 0A7h": on I2C with pins 3; the byte behind the list stays
+  clear-bytes : r .header .bus ≡ 0 → r .header .pins ≡ 3 → clearBuffer r (replicate 11 0xA5) ≡ 0x01 ∷ 0x00 ∷ 0x04 ∷ 0x00 ∷ 0x04 ∷ 0x00 ∷ 0x98 ∷ 0xA7 ∷ 0x0F ∷ 0x0F ∷ 0xA5 ∷ []
   unfolding sendBuffer sendAnswer encode listOf transactionOf headFirst headSecond
-  clear-shorts-bytes b p = rw (sound, b, p) refl
+  clear-bytes b p = rw (sound, b, p) refl
 
 -- "Every call but Open and Faults first refuses an unsound record with 14."
 unsound-14 : (r : Record) (x : Sending) (size : ℕ) → soundOf r ≡ false → sendAnswer r x size ≡ Refused Unsound

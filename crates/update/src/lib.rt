@@ -1,8 +1,8 @@
-// Records to burst lists: Update, Reset and the Clears.
+// Records to burst lists: Update, Reset and Clear.
 //
 // An Update brings the chip to the settings with the fewest bus bytes: it sends the addresses at which settings and chip image
 // differ, joins neighbours in one write where at most two writable addresses lie between them, and takes what it sends into the
-// chip image. Reset and the Clears are fixed commands. Each call writes its list to the front of the caller's buffer, answers the
+// chip image. Reset and Clear are fixed commands. Each call writes its list to the front of the caller's buffer, answers the
 // number of transactions and their bytes, and leaves the rest of the buffer as it was.
 //
 // Each call by value is a few lines over a function on the header and the lent images (`update_parts` and so on), which a caller uses
@@ -13,9 +13,8 @@ mod lists;
 ghost use mathlib.Core.Path.{_≡_};
 ghost use lib.ListN.{length};
 ghost use Rattle.map.specs.Refusals.{numbersOf};
-ghost use Rattle.update.specs.Update.{updateOf, updateBuffer, chipResetOf, resetBuffer, clearOf, clearOpensBuffer, clearShortsBuffer, listNumbers};
-pub use commands::clear_opens_parts;
-pub use commands::clear_shorts_parts;
+ghost use Rattle.update.specs.Update.{updateOf, updateBuffer, chipResetOf, resetBuffer, clearOf, clearBuffer, listNumbers};
+pub use commands::clear_parts;
 pub use commands::reset_parts;
 use host::Record;
 pub use lists::update_parts;
@@ -80,24 +79,12 @@ pub fn reset(mut r: Record, buffer: &mut [u8]) -> Updated
     }
 }
 
-// Clear the open bits of the chip.
-pub fn clear_opens(r: Record, buffer: &mut [u8]) -> Updated
+// Clear the open bits and the short bits of the chip.
+pub fn clear(r: Record, buffer: &mut [u8]) -> Updated
     ensures { λ x. ⌜ x ≡ clearOf r (length (now (buffer .entry))) ⌝ }
-    ensures { λ _. ⌜ now (buffer .exit) ≡ clearOpensBuffer r (now (buffer .entry)) ⌝ }
+    ensures { λ _. ⌜ now (buffer .exit) ≡ clearBuffer r (now (buffer .entry)) ⌝ }
 {
-    let answer = clear_opens_parts(r.header, &r.settings, &r.image, buffer);
-    Updated {
-        answer: answer,
-        host: r,
-    }
-}
-
-// Clear the short bits of the chip.
-pub fn clear_shorts(r: Record, buffer: &mut [u8]) -> Updated
-    ensures { λ x. ⌜ x ≡ clearOf r (length (now (buffer .entry))) ⌝ }
-    ensures { λ _. ⌜ now (buffer .exit) ≡ clearShortsBuffer r (now (buffer .entry)) ⌝ }
-{
-    let answer = clear_shorts_parts(r.header, &r.settings, &r.image, buffer);
+    let answer = clear_parts(r.header, &r.settings, &r.image, buffer);
     Updated {
         answer: answer,
         host: r,

@@ -9,8 +9,8 @@ use Rattle.chip.proofs.data.put_low.Tie as tie
 commands-requires : tie.Need-commands-requires
 commands-requires c κs = search needs
 
-clear-opens-requires : tie.Need-clear-opens-requires
-clear-opens-requires c κs = search needs
+lod-clear-requires : tie.Need-lod-clear-requires
+lod-clear-requires c κs = search needs
 
 same-length : tie.Need-same-length
 same-length c = search needs
@@ -18,13 +18,13 @@ same-length c = search needs
 returns : tie.Need-returns
 returns c =
     let tested = c .before .before .before .before in
-    puts-opens _ _ _ _ false _ _ (tested .before .commands .ensures) (tested .if1 .taken) (c .before .before .clear-opens .ensures)
+    puts-opens _ _ _ _ false _ _ (tested .before .commands .ensures) (tested .if1 .taken) (c .before .before .lod-clear .ensures)
 
 commands-requires-2 : tie.Need-commands-requires-2
 commands-requires-2 c κs = search needs
 
-clear-shorts-requires : tie.Need-clear-shorts-requires
-clear-shorts-requires c κs = search needs
+lsd-clear-requires : tie.Need-lsd-clear-requires
+lsd-clear-requires c κs = search needs
 
 same-length-2 : tie.Need-same-length-2
 same-length-2 c = search needs
@@ -34,7 +34,7 @@ returns-2 c =
     let second = c .before .before .before .before in
     let first = second .before .before in
     puts-shorts _ _ _ _ _ _ _ (first .before .commands .ensures) (first .if1 .left) (second .before .commands2 .ensures) (second .if2 .taken)
-    (c .before .before .clear-shorts .ensures)
+    (c .before .before .lsd-clear .ensures)
 
 slice-read-old : tie.Need-slice-read-old
 slice-read-old c = search needs
@@ -63,11 +63,11 @@ put-low-spec =
     tie.close
     (tie.spec
     commands-requires
-    clear-opens-requires
+    lod-clear-requires
     same-length
     returns
     commands-requires-2
-    clear-shorts-requires
+    lsd-clear-requires
     same-length-2
     returns-2
     slice-read-old

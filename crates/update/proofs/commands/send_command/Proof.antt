@@ -13,42 +13,32 @@ sound-parts-requires c κs = search needs
 
 returns : tie.Need-returns
 returns c =
-    let a = c .before .before .before .before .before .args in
-    command-unsound (recordOf (a .header) (a .settings .now) (a .image .now)) (a .buffer .now) (a .i2c) (a .spi) (sym (c .before .sound-parts .ensures) ∙ not-true _ (c .if1 .taken))
+    let a = c .before .before .before .before .before .before .before .args in
+    command-unsound (recordOf (a .header) (a .settings .now) (a .image .now)) (a .buffer .now) (a .i2c .now) (a .spi .now)
+    (sym (c .before .sound-parts .ensures) ∙ not-true _ (c .if1 .taken))
 
 returns-2 : tie.Need-returns-2
 returns-2 c =
-    let a = c .before .before .before .before .before .before .args in
-    command-short (recordOf (a .header) (a .settings .now) (a .image .now)) (a .buffer .now) (a .i2c) (a .spi) (sym (c .before .before .sound-parts .ensures) ∙ not-false _ (c .before .if1 .left)) (c .if2 .taken)
+    let a = c .before .before .before .before .before .before .before .before .args in
+    command-short (recordOf (a .header) (a .settings .now) (a .image .now)) (a .buffer .now) (a .i2c .now) (a .spi .now)
+    (sym (c .before .before .sound-parts .ensures) ∙ not-false _ (c .before .if1 .left)) (c .if2 .taken)
 
-string-of-requires : tie.Need-string-of-requires
-string-of-requires c κs = search needs
+put-string-requires : tie.Need-put-string-requires
+put-string-requires c κs = search needs
 
-slice-aggregate-copy : tie.Need-slice-aggregate-copy
-slice-aggregate-copy c = search needs
-
-copy-requires : tie.Need-copy-requires
-copy-requires c κs = search needs
+sub-t11 : tie.Need-sub-t11
+sub-t11 c = search needs
 
 same-length : tie.Need-same-length
 same-length c = search needs
 
 returns-3 : tie.Need-returns-3
 returns-3 c =
-    let a = c .before .before .before .before .before .before .before .before .before .before .before .before .args in
-    let s = c .before .before .before .before .before in
-    let e = sym (s .before .before .before .sound-parts .ensures) ∙ not-false _ (s .before .before .if1 .left) in
-    command-listed (recordOf (a .header) (a .settings .now) (a .image .now)) (a .buffer .now) (a .i2c) (a .spi) _ _ e (s .before .if2 .left) (s .string-of .ensures) (c .before .before .copy .ensures)
+    let s = c .before .before .before .before in
+    let a = s .before .before .before .before .before .before .before .before .args in
+    command-listed (recordOf (a .header) (a .settings .now) (a .image .now)) (a .buffer .now) (a .i2c .now) (a .spi .now) _
+    (sym (s .before .before .sound-parts .ensures) ∙ not-false _ (s .before .if1 .left)) (s .if2 .left) (c .before .before .put-string .ensures)
 
 pub send-command-spec : {M : Type 1} → statement M
 send-command-spec =
-    tie.close
-    (tie.spec
-    sound-parts-requires
-    returns
-    returns-2
-    string-of-requires
-    slice-aggregate-copy
-    copy-requires
-    same-length
-    returns-3)
+    tie.close (tie.spec sound-parts-requires returns returns-2 put-string-requires sub-t11 same-length returns-3)

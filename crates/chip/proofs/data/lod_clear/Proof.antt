@@ -1,10 +1,10 @@
--- `chip::data::clear_shorts` meets its contract.
+-- `chip::data::lod_clear` meets its contract.
 -- Assumes nothing.
-use Rattle.chip.specs.Chip.{clearShorts}
+use Rattle.chip.specs.Chip.{lodClear}
 use Rattle.chip.proofs.Steps.{cleared-length}
 use borrow.Author.Needs.{needs}
-use Rattle.chip.proofs.data.clear_shorts.Statement.{statement}
-use Rattle.chip.proofs.data.clear_shorts.Tie as tie
+use Rattle.chip.proofs.data.lod_clear.Statement.{statement}
+use Rattle.chip.proofs.data.lod_clear.Tie as tie
 
 slice-read-faults : tie.Need-slice-read-faults
 slice-read-faults c = search needs
@@ -21,9 +21,9 @@ same-length c =
     cleared-length (cleared .before .before .before .before .args .registers .now) _ _ _ _ _ (cleared .zero-from .ensures)
 
 returns : tie.Need-returns
-unfolding clearShorts
+unfolding lodClear
 returns c = c .before .before .zero-from .ensures
 
-pub clear-shorts-spec : {M : Type 1} → statement M
-clear-shorts-spec =
+pub lod-clear-spec : {M : Type 1} → statement M
+lod-clear-spec =
     tie.close (tie.spec slice-read-faults slice-write-registers zero-from-requires same-length returns)

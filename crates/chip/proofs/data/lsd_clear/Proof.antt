@@ -1,10 +1,10 @@
--- `chip::data::clear_opens` meets its contract.
+-- `chip::data::lsd_clear` meets its contract.
 -- Assumes nothing.
-use Rattle.chip.specs.Chip.{clearOpens}
+use Rattle.chip.specs.Chip.{lsdClear}
 use Rattle.chip.proofs.Steps.{cleared-length}
 use borrow.Author.Needs.{needs}
-use Rattle.chip.proofs.data.clear_opens.Statement.{statement}
-use Rattle.chip.proofs.data.clear_opens.Tie as tie
+use Rattle.chip.proofs.data.lsd_clear.Statement.{statement}
+use Rattle.chip.proofs.data.lsd_clear.Tie as tie
 
 slice-read-faults : tie.Need-slice-read-faults
 slice-read-faults c = search needs
@@ -21,9 +21,9 @@ same-length c =
     cleared-length (cleared .before .before .before .before .args .registers .now) _ _ _ _ _ (cleared .zero-from .ensures)
 
 returns : tie.Need-returns
-unfolding clearOpens
+unfolding lsdClear
 returns c = c .before .before .zero-from .ensures
 
-pub clear-opens-spec : {M : Type 1} → statement M
-clear-opens-spec =
+pub lsd-clear-spec : {M : Type 1} → statement M
+lsd-clear-spec =
     tie.close (tie.spec slice-read-faults slice-write-registers zero-from-requires same-length returns)

@@ -1,0 +1,43 @@
+-- What Clear does to the chip: document 02, Q-1.
+-- Assumes nothing.
+use mathlib.Core.Path.{_≡_}
+use mathlib.Core.Bool.{true, false}
+use mathlib.Core.List.{List, [], _∷_}
+use Prim.Native.Nat.{ℕ, _≤_}
+use lib.ListN.{length}
+use Rattle.burst.specs.Burst.{encode}
+use Rattle.host.specs.declared.Record.{Record}
+use Rattle.host.specs.Record.{soundOf}
+use Rattle.update.specs.Update.{commandWrite}
+use Rattle.chip.specs.declared.Chip.{Chip}
+use Rattle.chip.specs.Chip.{isOn, feedOf}
+use Rattle.history.specs.declared.World.{World}
+use Rattle.history.specs.Step.{clearStep}
+
+-- the chip, fed the list of one write of 0Fh to a; the record says with which heads
+abbrev pub fedOnce : Record → ℕ → Chip → Chip
+fedOnce r a c = feedOf c (encode (r .header .bus) (r .header .pins) (commandWrite a (0x0F ∷ []))) .chip
+
+-- "On the model the new call leaves what the two did, in either order.": the whole chip, with all its 908 bytes. The record stays.
+pub record ClearsBoth (w : World) (buffer : List ℕ) : Type 0 where
+  pub opens-first : clearStep w buffer .world .chip ≡ fedOnce (w .host) 0x0A8 (fedOnce (w .host) 0x0A7 (w .chip))
+  pub shorts-first : clearStep w buffer .world .chip ≡ fedOnce (w .host) 0x0A7 (fedOnce (w .host) 0x0A8 (w .chip))
+  pub host-stays : clearStep w buffer .world .host ≡ w .host
+
+-- "In standby .. only 000h and 0A9h are heard": none of the three changes anything
+pub record ClearsNothing (w : World) (buffer : List ℕ) : Type 0 where
+  pub opens : fedOnce (w .host) 0x0A7 (w .chip) ≡ w .chip
+  pub shorts : fedOnce (w .host) 0x0A8 (w .chip) ≡ w .chip
+  pub both : clearStep w buffer .world .chip ≡ w .chip
+
+-- a sound record, and a sound chip of its member, bus and pins
+pub record Paired (w : World) : Type 0 where
+  pub host-sound : soundOf (w .host) ≡ true
+  pub chip-sound : Rattle.chip.specs.Chip.soundOf (w .chip) ≡ true
+  pub member : w .chip .member ≡ w .host .header .member
+  pub bus : w .chip .bus ≡ w .host .header .bus
+  pub pins : w .chip .pins ≡ w .host .header .pins
+
+-- The claim, for every buffer that has room
+abbrev pub ClearClaim : Type 0
+ClearClaim = (w : World) → Paired w → (buffer : List ℕ) → 10 ≤ length buffer → ClearsBoth w buffer × (isOn (w .chip .registers) ≡ false → ClearsNothing w buffer)
