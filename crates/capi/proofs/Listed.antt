@@ -3,7 +3,7 @@
 use mathlib.Core.Path.{_≡_, refl, sym, ap, _∙_}
 use mathlib.Core.Bool.{Bool, true, false, cond, _&&_}
 use mathlib.Core.List.{List, _++_}
-use Prim.Native.Nat.{ℕ, _+_, _<_, _^_}
+use Prim.Native.Nat.{ℕ, _+_, _<_, _≤_, _^_}
 use native.Mathlib.Omega.{arith}
 use borrow.Author.Tests.{eq-eqb}
 use lib.Dec.{leb, eqb}
@@ -22,8 +22,7 @@ use Rattle.host.specs.declared.Record.{Record}
 use Rattle.host.specs.Record.{recordOf, soundOf}
 use Rattle.update.specs.declared.ListAnswer.{ListAnswer}
 use Rattle.update.specs.declared.ListAnswer.the-variants.{Listed, Short, Refused}
-use Rattle.update.specs.Update.{isListed, listNumber, listSize, Sending, sendAnswer, sendOf, sendBuffer, writesOf, updateAnswer, command, resetting, commandAnswer}
-use Rattle.update.specs.SendLaws.{command-answers}
+use Rattle.update.specs.Update.{isListed, listNumber, listSize, Sending, sendAnswer, sendOf, sendBuffer, writesOf, updateAnswer, command, resetting, resetAnswer}
 use Rattle.update.specs.BoundLaws.{bus-most, writes-few, size-most}
 use Rattle.capi.specs.Capi.{headerIn, settingsIn, imageAt, imageIn, recordIn, recordBytes, recordSize, listAnswer, listBytes, bufferAfter, stored, nAfter, tAfter, neededAfter, Fits, placeNumbers}
 use Rattle.capi.specs.Calls.{transactionCall}
@@ -43,11 +42,12 @@ module _ (r : Record) (size : ℕ) where
       go true e false = omega (arith, size-most r e)
       go false e b = tt
 
-  command-fits : Fits (commandAnswer r size)
+  -- a command of one byte or two
+  command-fits : (a : ℕ) (values image : List ℕ) → length values ≤ 2 → Fits (sendAnswer r (command a values image) size)
   unfolding sendAnswer
-  command-fits = go (soundOf r) (leb 9 size)
+  command-fits a values image h = go (soundOf r) (leb (listSize (command a values image .writes)) size)
     where
-      go : (s b : Bool) → Fits (cond s (cond b (Listed 1 3) (Refused BufferShort)) (Refused Unsound))
+      go : (s b : Bool) → Fits (cond s (cond b (Listed 1 (busBytes (command a values image .writes))) (Refused BufferShort)) (Refused Unsound))
       go true true = (omega arith, omega arith)
       go true false = tt
       go false b = tt
@@ -55,12 +55,8 @@ module _ (r : Record) (size : ℕ) where
   pub update-within : (answer : ListAnswer) → answer ≡ updateAnswer r size → Fits answer
   update-within answer e = rw e update-fits
 
-  pub command-within : (answer : ListAnswer) → answer ≡ commandAnswer r size → Fits answer
-  command-within answer e = rw e command-fits
-
--- every command answers alike
-pub as-command : (r : Record) (a v : ℕ) (image : List ℕ) (size : ℕ) (answer : ListAnswer) → answer ≡ commandAnswer r size → answer ≡ sendAnswer r (command a v image) size
-as-command r a v image size answer e = e ∙ sym (command-answers r a v image size)
+  pub command-within : (a : ℕ) (values image : List ℕ) → length values ≤ 2 → (answer : ListAnswer) → answer ≡ sendAnswer r (command a values image) size → Fits answer
+  command-within a values image h answer e = rw e (command-fits a values image h)
 
 -- ---- a call that sends, on bytes of the right size
 
@@ -104,7 +100,7 @@ module _ (f : Record → Sending) (bytes : List ℕ) (h : length bytes ≡ recor
 
 -- a Reset puts its image into its part of the bytes
 pub reset-back : (bytes : List ℕ) (h : length bytes ≡ recordSize) (header : Header) (eh : header ≡ headerIn bytes) (buffer part : List ℕ) (answer : ListAnswer) →
-    (ea : answer ≡ commandAnswer (recordOf header (settingsIn bytes) (imageIn bytes)) (length buffer)) →
+    (ea : answer ≡ resetAnswer (recordOf header (settingsIn bytes) (imageIn bytes)) (length buffer)) →
     part ≡ cond (isListed answer && eqb (length (imageIn bytes)) 908) (resetImage (header .member)) (imageIn bytes) →
     putPart imageAt 908 bytes part ≡ listBytes bytes (sendOf (recordIn bytes) (resetting (recordIn bytes)) (length buffer))
 unfolding recordIn

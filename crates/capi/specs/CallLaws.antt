@@ -105,7 +105,7 @@ module _ (r : Record) (hs : length (r .settings) ≡ 908) (hi : length (r .image
       ∙ list-stored (sendOf r (f r) (length buffer)) (sendBuffer r (f r) buffer) buffer n t
       (λ e. host-kept r (f r) (length buffer) (sym (ap isListed (answer-of r (f r) (length buffer))) ∙ e))
 
--- the Clears leave the record's bytes, which they only read
+-- Clear leaves the record's bytes, which it only reads
 pub clear-bytes : (bytes : List ℕ) (size : ℕ) → length bytes ≡ recordSize → listBytes bytes (clearOf (recordIn bytes) size) ≡ bytes
 unfolding listBytes
 clear-bytes bytes size h =

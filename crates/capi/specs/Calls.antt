@@ -10,7 +10,7 @@ use Rattle.burst.specs.Burst.{placeOf}
 use Rattle.calls.specs.declared.Setting.{Setting}
 use Rattle.host.specs.Record.{openOf, settingOf, powerLostOf}
 use Rattle.host.specs.declared.Record.{Record}
-use Rattle.update.specs.Update.{Sending, sendOf, sendBuffer, updating, updateOf, resetting, clearingOpens, clearingShorts}
+use Rattle.update.specs.Update.{Sending, sendOf, sendBuffer, updating, updateOf, resetting, clearing}
 use Rattle.chip.specs.Chip.{atResetOf, feedOf}
 use Rattle.capi.specs.Capi.{recordIn, chipIn, Outcome, settingOutcome, sizedNumbers, chipOutcome, listAnswer, neededAfter, ListOutcome, listOutcome, PlaceOutcome, placeOutcome}
 
@@ -51,13 +51,9 @@ updateNeeded bytes buffer needed = neededAfter (listAnswer bytes (updateOf (reco
 abbrev pub resetCall : List ℕ → List ℕ → ℕ → ℕ → ListOutcome
 resetCall = sendCall resetting
 
--- lp586x_clear_opens
-abbrev pub clearOpensCall : List ℕ → List ℕ → ℕ → ℕ → ListOutcome
-clearOpensCall = sendCall clearingOpens
-
--- lp586x_clear_shorts
-abbrev pub clearShortsCall : List ℕ → List ℕ → ℕ → ℕ → ListOutcome
-clearShortsCall = sendCall clearingShorts
+-- lp586x_clear
+abbrev pub clearCall : List ℕ → List ℕ → ℕ → ℕ → ListOutcome
+clearCall = sendCall clearing
 
 -- lp586x_transaction
 abbrev pub transactionCall : List ℕ → ℕ → ℕ → ℕ → PlaceOutcome

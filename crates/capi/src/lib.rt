@@ -14,7 +14,7 @@ ghost use Rattle.map.specs.Refusals.{refusalNumber};
 ghost use Rattle.faults.specs.Faults.{answerNumbers, faultsAnswer, faultsResult};
 ghost use Rattle.host.specs.Record.{recordOf};
 ghost use Rattle.update.specs.Update.{updateAnswer, updateOf, updateBuffer};
-ghost use Rattle.capi.specs.Calls.{openCall, settingCall, settingNumbersCall, powerLostCall, updateCall, updateNeeded, resetCall, clearOpensCall, clearShortsCall, transactionCall, chipAtResetCall, chipPowerLostCall, chipFeedCall};
+ghost use Rattle.capi.specs.Calls.{openCall, settingCall, settingNumbersCall, powerLostCall, updateCall, updateNeeded, resetCall, clearCall, transactionCall, chipAtResetCall, chipPowerLostCall, chipFeedCall};
 use burst::Place;
 use calls::Setting;
 use host::Header;
@@ -225,16 +225,16 @@ pub extern "C" fn lp586x_reset(bytes: &mut [u8], buffer: &mut [u8], n: &mut u32,
 }
 
 #[no_mangle]
-pub extern "C" fn lp586x_clear_opens(
+pub extern "C" fn lp586x_clear(
     bytes: &[u8],
     buffer: &mut [u8],
     n: &mut u32,
     t: &mut u32,
 ) -> u32
-    ensures { λ r. ⌜ r ≡ clearOpensCall (now (bytes .entry)) (now (buffer .entry)) (now (n .entry)) (now (t .entry)) .answer ⌝ }
-    ensures { λ _. ⌜ now (buffer .exit) ≡ clearOpensCall (now (bytes .entry)) (now (buffer .entry)) (now (n .entry)) (now (t .entry)) .buffer ⌝ }
-    ensures { λ _. ⌜ now (n .exit) ≡ clearOpensCall (now (bytes .entry)) (now (buffer .entry)) (now (n .entry)) (now (t .entry)) .n ⌝ }
-    ensures { λ _. ⌜ now (t .exit) ≡ clearOpensCall (now (bytes .entry)) (now (buffer .entry)) (now (n .entry)) (now (t .entry)) .t ⌝ }
+    ensures { λ r. ⌜ r ≡ clearCall (now (bytes .entry)) (now (buffer .entry)) (now (n .entry)) (now (t .entry)) .answer ⌝ }
+    ensures { λ _. ⌜ now (buffer .exit) ≡ clearCall (now (bytes .entry)) (now (buffer .entry)) (now (n .entry)) (now (t .entry)) .buffer ⌝ }
+    ensures { λ _. ⌜ now (n .exit) ≡ clearCall (now (bytes .entry)) (now (buffer .entry)) (now (n .entry)) (now (t .entry)) .n ⌝ }
+    ensures { λ _. ⌜ now (t .exit) ≡ clearCall (now (bytes .entry)) (now (buffer .entry)) (now (n .entry)) (now (t .entry)) .t ⌝ }
 {
     if bytes.len() != RECORD_SIZE {
         return wrong_size();
@@ -242,29 +242,7 @@ pub extern "C" fn lp586x_clear_opens(
     let header = records::header(bytes);
     let settings = &bytes[SETTINGS..IMAGE];
     let image = &bytes[IMAGE..RECORD_SIZE];
-    let answer = update::clear_opens_parts(header, settings, image, buffer);
-    lists::count(answer, n, t)
-}
-
-#[no_mangle]
-pub extern "C" fn lp586x_clear_shorts(
-    bytes: &[u8],
-    buffer: &mut [u8],
-    n: &mut u32,
-    t: &mut u32,
-) -> u32
-    ensures { λ r. ⌜ r ≡ clearShortsCall (now (bytes .entry)) (now (buffer .entry)) (now (n .entry)) (now (t .entry)) .answer ⌝ }
-    ensures { λ _. ⌜ now (buffer .exit) ≡ clearShortsCall (now (bytes .entry)) (now (buffer .entry)) (now (n .entry)) (now (t .entry)) .buffer ⌝ }
-    ensures { λ _. ⌜ now (n .exit) ≡ clearShortsCall (now (bytes .entry)) (now (buffer .entry)) (now (n .entry)) (now (t .entry)) .n ⌝ }
-    ensures { λ _. ⌜ now (t .exit) ≡ clearShortsCall (now (bytes .entry)) (now (buffer .entry)) (now (n .entry)) (now (t .entry)) .t ⌝ }
-{
-    if bytes.len() != RECORD_SIZE {
-        return wrong_size();
-    }
-    let header = records::header(bytes);
-    let settings = &bytes[SETTINGS..IMAGE];
-    let image = &bytes[IMAGE..RECORD_SIZE];
-    let answer = update::clear_shorts_parts(header, settings, image, buffer);
+    let answer = update::clear_parts(header, settings, image, buffer);
     lists::count(answer, n, t)
 }
 

@@ -1,6 +1,7 @@
 -- `capi::lp586x_reset` meets its contract.
 -- Assumes nothing.
 use mathlib.Core.Path.{refl}
+use native.Mathlib.Omega.{arith}
 use Rattle.capi.specs.CapiLaws.{record-unsized}
 use Rattle.capi.specs.Capi.{listAnswer, listBytes, bufferAfter, stored}
 use Rattle.update.specs.Update.{resetting}
@@ -53,7 +54,7 @@ keep-reset-requires : tie.Need-keep-reset-requires
 keep-reset-requires c κs = search needs
 
 count-requires : tie.Need-count-requires
-count-requires c κs = command-within _ _ _ (c .before .before .before .before .before .before .before .before .reset-parts .ensures .0)
+count-requires c κs = command-within _ _ _ _ _ (omega arith) _ (c .before .before .before .before .before .before .before .before .reset-parts .ensures .0)
 
 same-length : tie.Need-same-length
 same-length c = search needs

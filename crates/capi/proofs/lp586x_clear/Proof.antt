@@ -1,13 +1,14 @@
--- `capi::lp586x_clear_shorts` meets its contract.
+-- `capi::lp586x_clear` meets its contract.
 -- Assumes nothing.
 use mathlib.Core.Path.{refl}
+use native.Mathlib.Omega.{arith}
 use Rattle.capi.specs.CapiLaws.{record-unsized}
 use Rattle.capi.specs.Capi.{listAnswer, bufferAfter, stored}
-use Rattle.update.specs.Update.{clearingShorts}
-use Rattle.capi.proofs.Listed.{command-within, as-command, answer-is, buffer-is}
+use Rattle.update.specs.Update.{clearing}
+use Rattle.capi.proofs.Listed.{command-within, answer-is, buffer-is}
 use borrow.Author.Needs.{needs}
-use Rattle.capi.proofs.lp586x_clear_shorts.Statement.{statement}
-use Rattle.capi.proofs.lp586x_clear_shorts.Tie as tie
+use Rattle.capi.proofs.lp586x_clear.Statement.{statement}
+use Rattle.capi.proofs.lp586x_clear.Tie as tie
 
 wrong-size-requires : tie.Need-wrong-size-requires
 wrong-size-requires c κs = search needs
@@ -37,11 +38,11 @@ part-image-start c = search needs
 part-image-end : tie.Need-part-image-end
 part-image-end c = search needs
 
-clear-shorts-parts-requires : tie.Need-clear-shorts-parts-requires
-clear-shorts-parts-requires c κs = search needs
+clear-parts-requires : tie.Need-clear-parts-requires
+clear-parts-requires c κs = search needs
 
 count-requires : tie.Need-count-requires
-count-requires c κs = command-within _ _ _ (c .before .before .before .before .clear-shorts-parts .ensures .0)
+count-requires c κs = command-within _ _ _ _ _ (omega arith) _ (c .before .before .before .before .clear-parts .ensures .0)
 
 same-length : tie.Need-same-length
 same-length c = search needs
@@ -55,15 +56,14 @@ returns-2 c =
     let buffer = begun .args .buffer .now in
     let sized = read .before .if1 .left in
     let header = read .header .ensures in
-    let made = sent .clear-shorts-parts .ensures in
-    let command = as-command _ 0x0A8 0x0F _ _ _ (made .0) in
-    rw (answer-is clearingShorts bytes sized _ header buffer _ command) (
+    let made = sent .clear-parts .ensures in
+    rw (answer-is clearing bytes sized _ header buffer _ (made .0)) (
       c .count .ensures .0,
-      (buffer-is clearingShorts bytes sized _ header buffer _ command _ (made .1), (c .count .ensures .1 .0, c .count .ensures .1 .1)),
+      (buffer-is clearing bytes sized _ header buffer _ (made .0) _ (made .1), (c .count .ensures .1 .0, c .count .ensures .1 .1)),
     )
 
-pub lp586x-clear-shorts-spec : {M : Type 1} → statement M
-lp586x-clear-shorts-spec =
+pub lp586x-clear-spec : {M : Type 1} → statement M
+lp586x-clear-spec =
     tie.close
     (tie.spec
     wrong-size-requires
@@ -75,7 +75,7 @@ lp586x-clear-shorts-spec =
     sub-image
     part-image-start
     part-image-end
-    clear-shorts-parts-requires
+    clear-parts-requires
     count-requires
     same-length
     returns-2)
