@@ -11,7 +11,7 @@ use lib.ListN.{length, getD}
 use Rattle.calls.specs.declared.Request.{Request}
 use Rattle.calls.specs.declared.Request.the-variants.{Set, Reset, PowerLost, Update}
 use Rattle.script.specs.declared.command.Command.{Command}
-use Rattle.script.specs.declared.command.Command.the-variants.{Bad, Open, Call, ClearOpens, ClearShorts, Feed, Faults, Show, Poke, Header, Check}
+use Rattle.script.specs.declared.command.Command.the-variants.{Bad, Open, Call, Clear, Feed, Faults, Show, Poke, Header, Check}
 use Rattle.script.specs.declared.command.Line.{Line}
 use Rattle.script.specs.declared.command.Line.the-variants.{Run, Aside}
 use Rattle.script.specs.declared.command.Aside as asides
@@ -58,8 +58,7 @@ unfoldable pub CommandFits : List ℕ → Command → Type 0
 CommandFits l Bad = 0 ≤ 0
 CommandFits l (Open m b p) = 0 ≤ 0
 CommandFits l (Call q lent) = LentFits l lent × BufferFits q lent
-CommandFits l (ClearOpens n) = n ≤ 4096
-CommandFits l (ClearShorts n) = n ≤ 4096
+CommandFits l (Clear n) = n ≤ 4096
 CommandFits l (Feed n) = length l ≤ 8192
 CommandFits l (Faults m k n) = (length l ≤ 8192) × (n ≤ 4096)
 CommandFits l (Show p) = 0 ≤ 0

@@ -9,7 +9,7 @@ use lib.Dec.{eqb, ltb, leb}
 use lib.ListN.{length, getD, take}
 use Rattle.calls.specs.declared.Setting.the-variants.{Register, Lamp, Group, Switch, Scene}
 use Rattle.calls.specs.declared.Request.the-variants.{Set, Reset, PowerLost, Update}
-use Rattle.script.specs.declared.command.Command.the-variants.{Bad, Open, Call, ClearOpens, ClearShorts, Feed, Faults, Show, Poke, Header, Check}
+use Rattle.script.specs.declared.command.Command.the-variants.{Bad, Open, Call, Clear, Feed, Faults, Show, Poke, Header, Check}
 use Rattle.script.specs.declared.command.Line.{Line}
 use Rattle.script.specs.declared.command.Line.the-variants.{Run, Aside}
 use Rattle.script.specs.declared.command.Aside.the-variants.{Silent, Echo, Lamps, FaultMap, Diff, List as LastList}
@@ -131,8 +131,7 @@ lines =
     ∷ row "update" (room ∷ []) (λ n y z. Run (Call Update (Room n)))
     ∷ row "reset" (room ∷ []) (λ n y z. Run (Call Reset (Room n)))
     ∷ row "power" [] (λ x y z. Run (Call PowerLost Nothing))
-    ∷ row "clearopens" (room ∷ []) (λ n y z. Run (ClearOpens n))
-    ∷ row "clearshorts" (room ∷ []) (λ n y z. Run (ClearShorts n))
+    ∷ row "clear" (room ∷ []) (λ n y z. Run (Clear n))
     ∷ row "feed" (bytes ∷ []) (λ x y z. Run (Feed 1))
     ∷ row "faults" (decimal ∷ bytes ∷ room ∷ []) (λ m y n. Run (Faults m 2 n))
     ∷ row "settings" [] (λ x y z. Run (Show Settings))

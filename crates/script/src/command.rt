@@ -45,8 +45,7 @@ pub enum Command {
     Open(usize, usize, usize),
     Call(Request, Lent),
     // with a buffer of so many bytes
-    ClearOpens(usize),
-    ClearShorts(usize),
+    Clear(usize),
     // the byte string that is this word of the line
     Feed(usize),
     // a member, the word that is the byte string, and the length of the result buffer

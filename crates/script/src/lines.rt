@@ -86,7 +86,7 @@ const ENTRY: u8 = b'e';
 // `on` or `off`
 const ON_OFF: u8 = b'o';
 
-const ROWS: usize = 24;
+const ROWS: usize = 23;
 
 // The first word of each line, and the kinds of its other words. The settings that are lent nothing stand first: row n is arm n of `call`,
 // and row 4 + n arm n of `other`.
@@ -100,8 +100,7 @@ const LINES: [u8; 16 * ROWS] = *b"\
     update r        \
     reset r         \
     power           \
-    clearopens r    \
-    clearshorts r   \
+    clear r         \
     feed s          \
     faults dsr      \
     settings        \
@@ -165,21 +164,20 @@ fn other(place: usize, first: usize, second: usize, third: usize) -> Line
         2 => Line::Run(Command::Call(Request::Update, Lent::Room(first))),
         3 => Line::Run(Command::Call(Request::Reset, Lent::Room(first))),
         4 => Line::Run(Command::Call(Request::PowerLost, Lent::Nothing)),
-        5 => Line::Run(Command::ClearOpens(first)),
-        6 => Line::Run(Command::ClearShorts(first)),
-        7 => Line::Run(Command::Feed(1)),
-        8 => Line::Run(Command::Faults(first, 2, third)),
-        9 => Line::Run(Command::Show(Part::Settings)),
-        10 => Line::Run(Command::Show(Part::Image)),
-        11 => Line::Run(Command::Show(Part::Chip)),
-        12 => Line::Run(Command::Poke(part(first), second, third)),
-        13 => Line::Run(Command::Header(entry(first), second)),
-        14 => Line::Run(Command::Check),
-        15 => Line::Aside(Aside::Lamps(part(first))),
-        16 => Line::Aside(Aside::Diff),
-        17 => Line::Aside(Aside::FaultMap(1)),
-        18 => Line::Aside(Aside::Echo(first == 0)),
-        19 => Line::Aside(Aside::List),
+        5 => Line::Run(Command::Clear(first)),
+        6 => Line::Run(Command::Feed(1)),
+        7 => Line::Run(Command::Faults(first, 2, third)),
+        8 => Line::Run(Command::Show(Part::Settings)),
+        9 => Line::Run(Command::Show(Part::Image)),
+        10 => Line::Run(Command::Show(Part::Chip)),
+        11 => Line::Run(Command::Poke(part(first), second, third)),
+        12 => Line::Run(Command::Header(entry(first), second)),
+        13 => Line::Run(Command::Check),
+        14 => Line::Aside(Aside::Lamps(part(first))),
+        15 => Line::Aside(Aside::Diff),
+        16 => Line::Aside(Aside::FaultMap(1)),
+        17 => Line::Aside(Aside::Echo(first == 0)),
+        18 => Line::Aside(Aside::List),
         _ => Line::Run(Command::Bad),
     }
 }

@@ -82,16 +82,19 @@ update-brief r e = record {
   short = value-most (refusalNumber BufferShort) (listSize (writesOf r)) (omega arith) (omega (arith, size-most r e));
 }
 
-command-brief : (a v : ℕ) (image : List ℕ) → Brief (command a v image)
-command-brief a v image = record { writes = omega arith; bytes = omega arith; short = alone-most (refusalNumber BufferShort) (omega arith) }
+-- a command has two bytes at most
+command-brief : (a : ℕ) (values image : List ℕ) → length values ≤ 2 → Brief (command a values image)
+command-brief a values image h = record { writes = omega arith; bytes = omega arith; short = alone-most (refusalNumber BufferShort) (omega arith) }
 
 update-most : (w : World) (lent : List ℕ) → length (numbersText (numbersIn (callNumbers (stepOf w Update lent .answer)))) ≤ 9
 unfolding sendOf
 update-most w lent = held-most _ (send-most (w .host) (updating (w .host)) (length lent) (update-brief (w .host)))
 
-command-most : (w : World) (a v : ℕ) (image lent : List ℕ) → length (numbersText (numbersIn (callNumbers (sendStep w (command a v image) lent .answer)))) ≤ 9
+command-most : (w : World) (a : ℕ) (values image lent : List ℕ) → length values ≤ 2 →
+    length (numbersText (numbersIn (callNumbers (sendStep w (command a values image) lent .answer)))) ≤ 9
 unfolding sendOf
-command-most w a v image lent = held-most _ (send-most (w .host) (command a v image) (length lent) (λ e. command-brief a v image))
+command-most w a values image lent h =
+    held-most _ (send-most (w .host) (command a values image) (length lent) (λ e. command-brief a values image h))
 
 faults-most : (answer : faults.Answer) → length (numbersText (answerNumbers answer)) ≤ 9
 unfolding answerNumbers
@@ -152,7 +155,7 @@ unfolding BufferFits answered alone ShortLent
 call-short w q Nothing bytes x s f = omega arith
 call-short w q (Word n) bytes x s f = omega arith
 call-short w (Set q) (Room n) bytes x s f = absurd (omega arith)
-call-short w Reset (Room n) bytes x s f = command-most w 0x0A9 0xFF _ bytes
+call-short w Reset (Room n) bytes x s f = command-most w _ _ _ bytes (omega arith)
 call-short w PowerLost (Room n) bytes x s f = absurd (omega arith)
 call-short w Update (Room n) bytes x s f = update-most w bytes
 
@@ -161,8 +164,7 @@ unfolding effectOf openEffect callEffect stepEffect feedEffect faultsEffect show
 line-short s commands.Bad l b f = omega arith
 line-short s (commands.Open m bus p) l b f = omega arith
 line-short s (commands.Call q lent) l b f = call-short (s .world) q lent (lentOf lent l b) _ _ (f .1)
-line-short s (commands.ClearOpens n) l b f = command-most (s .world) 0x0A7 0x0F _ (take n b)
-line-short s (commands.ClearShorts n) l b f = command-most (s .world) 0x0A8 0x0F _ (take n b)
+line-short s (commands.Clear n) l b f = command-most (s .world) _ _ _ (take n b) (omega arith)
 line-short s (commands.Feed k) l b f = omega arith
 line-short s (commands.Faults m k n) l b f = held-most _ (faults-most (faultsAnswer m (bytesOf (wordAt l k)) (take n b)))
 line-short s (commands.Show p) l b f = omega arith

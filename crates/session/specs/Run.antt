@@ -19,7 +19,7 @@ use Rattle.chip.specs.declared.Chip as chips
 use Rattle.chip.specs.Chip.{chipOf, feedOf}
 use Rattle.faults.specs.Faults.{answerNumbers, faultsAnswer, faultsResult}
 use Rattle.history.specs.declared.World.{World}
-use Rattle.history.specs.Step.{Step, callNumbers, stepOf, clearOpensStep, clearShortsStep}
+use Rattle.history.specs.Step.{Step, callNumbers, stepOf, clearStep}
 use Rattle.history.specs.Ledger.{toldOf, openedLedger, enteredOf}
 use Rattle.history.specs.History.{start}
 use Rattle.script.specs.declared.command.Command.{Command}
@@ -197,8 +197,7 @@ unfoldable pub effectOf : Session → Command → List ℕ → List ℕ → Effe
 effectOf s commands.Bad l b = alone Bad s
 effectOf s (commands.Open m bus p) l b = openEffect s m bus p
 effectOf s (commands.Call q lent) l b = callEffect s q lent (lentOf lent l b)
-effectOf s (commands.ClearOpens n) l b = stepEffect s (Room n) (clearOpensStep (s .world) (take n b))
-effectOf s (commands.ClearShorts n) l b = stepEffect s (Room n) (clearShortsStep (s .world) (take n b))
+effectOf s (commands.Clear n) l b = stepEffect s (Room n) (clearStep (s .world) (take n b))
 effectOf s (commands.Feed k) l b = feedEffect s (bytesOf (wordAt l k))
 effectOf s (commands.Faults m k n) l b = faultsEffect s m (bytesOf (wordAt l k)) (take n b)
 effectOf s (commands.Show p) l b = shownBytes s (partBytes (s .world) p)

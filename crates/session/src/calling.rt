@@ -4,7 +4,7 @@ ghost use mathlib.Core.Path.{_≡_};
 ghost use mathlib.Core.List.{List};
 ghost use Prim.Native.Nat.{ℕ, _≤_};
 ghost use lib.ListN.{length, take};
-ghost use Rattle.history.specs.Step.{leaving, clearOpensStep, clearShortsStep};
+ghost use Rattle.history.specs.Step.{leaving, clearStep};
 ghost use Rattle.script.specs.Words.{wordAt};
 ghost use Rattle.script.specs.Bytes.{bytesOf};
 ghost use Rattle.script.specs.LineLaws.{LentFits};
@@ -70,19 +70,11 @@ pub(crate) fn call(
     call_on(session, request, lent, &mut buffer[..n])
 }
 
-pub(crate) fn clear_opens(session: Session, room: usize, buffer: &mut [u8]) -> Outcome
+pub(crate) fn clear(session: Session, room: usize, buffer: &mut [u8]) -> Outcome
     requires { ⌜ (room ≤ 4096) × (length (now buffer) ≡ 4096) ⌝ }
-    ensures { λ r. ⌜ Does r (now (buffer .exit)) (stepEffect session (Lent.Room room) (clearOpensStep (session .world) (take room (now (buffer .entry))))) ⌝ }
+    ensures { λ r. ⌜ Does r (now (buffer .exit)) (stepEffect session (Lent.Room room) (clearStep (session .world) (take room (now (buffer .entry))))) ⌝ }
 {
-    let after = history::clear_opens(session.world, &mut buffer[..room]);
-    stepped(session, after, Lent::Room(room), room)
-}
-
-pub(crate) fn clear_shorts(session: Session, room: usize, buffer: &mut [u8]) -> Outcome
-    requires { ⌜ (room ≤ 4096) × (length (now buffer) ≡ 4096) ⌝ }
-    ensures { λ r. ⌜ Does r (now (buffer .exit)) (stepEffect session (Lent.Room room) (clearShortsStep (session .world) (take room (now (buffer .entry))))) ⌝ }
-{
-    let after = history::clear_shorts(session.world, &mut buffer[..room]);
+    let after = history::clear(session.world, &mut buffer[..room]);
     stepped(session, after, Lent::Room(room), room)
 }
 

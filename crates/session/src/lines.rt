@@ -24,8 +24,7 @@ pub fn run(session: Session, command: Command, line: &[u8], buffer: &mut [u8]) -
         Command::Bad => alone(Reply::Bad, session),
         Command::Open(member, bus, pins) => opening::open(session, member, bus, pins),
         Command::Call(request, lent) => calling::call(session, request, lent, line, buffer),
-        Command::ClearOpens(room) => calling::clear_opens(session, room, buffer),
-        Command::ClearShorts(room) => calling::clear_shorts(session, room, buffer),
+        Command::Clear(room) => calling::clear(session, room, buffer),
         Command::Feed(word) => calling::feed(session, line, word, buffer),
         Command::Faults(member, word, room) => calling::faults(
             session,

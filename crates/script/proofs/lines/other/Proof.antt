@@ -63,23 +63,23 @@ returns-11 c = rw (c .match .keys11) refl
 
 returns-12 : tie.Need-returns-12
 unfolding callAt lineAt lines
-returns-12 c = rw (c .match .keys12) refl
+returns-12 c = rw (c .before .match .keys12, c .part .ensures) refl
 
 returns-13 : tie.Need-returns-13
 unfolding callAt lineAt lines
-returns-13 c = rw (c .before .match .keys13, c .part .ensures) refl
+returns-13 c = rw (c .before .match .keys13, c .entry .ensures) refl
 
 returns-14 : tie.Need-returns-14
 unfolding callAt lineAt lines
-returns-14 c = rw (c .before .match .keys14, c .entry .ensures) refl
+returns-14 c = rw (c .match .keys14) refl
 
 returns-15 : tie.Need-returns-15
 unfolding callAt lineAt lines
-returns-15 c = rw (c .match .keys15) refl
+returns-15 c = rw (c .before .match .keys15, c .part2 .ensures) refl
 
 returns-16 : tie.Need-returns-16
 unfolding callAt lineAt lines
-returns-16 c = rw (c .before .match .keys16, c .part2 .ensures) refl
+returns-16 c = rw (c .match .keys16) refl
 
 returns-17 : tie.Need-returns-17
 unfolding callAt lineAt lines
@@ -94,12 +94,8 @@ unfolding callAt lineAt lines
 returns-19 c = rw (c .match .keys19) refl
 
 returns-20 : tie.Need-returns-20
-unfolding callAt lineAt lines
-returns-20 c = rw (c .match .keys20) refl
-
-returns-21 : tie.Need-returns-21
 unfolding lines
-returns-21 c = let behind = others-above _ 20 (c .match .rest) in no-call _ _ _ _ (omega (arith, behind))
+returns-20 c = let behind = others-above _ 19 (c .match .rest) in no-call _ _ _ _ (omega (arith, behind))
 
 pub other-spec : {M : Type 1} → statement M
 other-spec =
@@ -127,5 +123,4 @@ other-spec =
     returns-17
     returns-18
     returns-19
-    returns-20
-    returns-21)
+    returns-20)

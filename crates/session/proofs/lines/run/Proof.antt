@@ -31,50 +31,43 @@ call-requires c κs = (fitting _ _ _ (c .before .before .before .before .before 
 enum-known-command-3 : tie.Need-enum-known-command-3
 enum-known-command-3 c = search needs
 
-clear-opens-requires : tie.Need-clear-opens-requires
+clear-requires : tie.Need-clear-requires
 unfolding CommandFits
-clear-opens-requires c κs = (fitting _ _ _ (c .before .before .before .before .before .before .pre .0) (c .before .before .command3 .given .1), c .before .before .before .before .before .before .pre .1)
+clear-requires c κs = (fitting _ _ _ (c .before .before .before .before .before .before .pre .0) (c .before .before .command3 .given .1), c .before .before .before .before .before .before .pre .1)
 
 enum-known-command-4 : tie.Need-enum-known-command-4
 enum-known-command-4 c = search needs
 
-clear-shorts-requires : tie.Need-clear-shorts-requires
+feed-requires : tie.Need-feed-requires
 unfolding CommandFits
-clear-shorts-requires c κs = (fitting _ _ _ (c .before .before .before .before .before .before .pre .0) (c .before .before .command4 .given .1), c .before .before .before .before .before .before .pre .1)
+feed-requires c κs = (fitting _ _ _ (c .before .before .before .before .before .before .pre .0) (c .before .before .command4 .given .1), c .before .before .before .before .before .before .pre .1)
 
 enum-known-command-5 : tie.Need-enum-known-command-5
 enum-known-command-5 c = search needs
 
-feed-requires : tie.Need-feed-requires
+faults-requires : tie.Need-faults-requires
 unfolding CommandFits
-feed-requires c κs = (fitting _ _ _ (c .before .before .before .before .before .before .pre .0) (c .before .before .command5 .given .1), c .before .before .before .before .before .before .pre .1)
+faults-requires c κs = let fit = fitting _ _ _ (c .before .before .before .before .before .before .pre .0) (c .before .before .command5 .given .1) in (fit .0, fit .1, c .before .before .before .before .before .before .pre .1)
 
 enum-known-command-6 : tie.Need-enum-known-command-6
 enum-known-command-6 c = search needs
 
-faults-requires : tie.Need-faults-requires
-unfolding CommandFits
-faults-requires c κs = let fit = fitting _ _ _ (c .before .before .before .before .before .before .pre .0) (c .before .before .command6 .given .1) in (fit .0, fit .1, c .before .before .before .before .before .before .pre .1)
+show-requires : tie.Need-show-requires
+show-requires c κs = search needs
 
 enum-known-command-7 : tie.Need-enum-known-command-7
 enum-known-command-7 c = search needs
 
-show-requires : tie.Need-show-requires
-show-requires c κs = search needs
+poke-requires : tie.Need-poke-requires
+unfolding CommandFits
+poke-requires c κs = fitting _ _ _ (c .before .before .before .before .before .pre .0) (c .before .command7 .given .1)
 
 enum-known-command-8 : tie.Need-enum-known-command-8
 enum-known-command-8 c = search needs
 
-poke-requires : tie.Need-poke-requires
-unfolding CommandFits
-poke-requires c κs = fitting _ _ _ (c .before .before .before .before .before .pre .0) (c .before .command8 .given .1)
-
-enum-known-command-9 : tie.Need-enum-known-command-9
-enum-known-command-9 c = search needs
-
 header-requires : tie.Need-header-requires
 unfolding CommandFits
-header-requires c κs = fitting _ _ _ (c .before .before .before .before .before .pre .0) (c .before .command9 .given .1)
+header-requires c κs = fitting _ _ _ (c .before .before .before .before .before .pre .0) (c .before .command8 .given .1)
 
 enum-told-2 : tie.Need-enum-told-2
 enum-told-2 c = search needs
@@ -102,47 +95,40 @@ same-length-2 c = search needs
 
 returns-4 : tie.Need-returns-4
 unfolding effectOf
-returns-4 c = ran _ _ _ _ _ _ _ (c .before .before .before .before .before .command3 .given .1) (c .before .before .clear-opens .ensures)
+returns-4 c = ran _ _ _ _ _ _ _ (c .before .before .before .before .before .command3 .given .1) (c .before .before .clear .ensures)
 
 same-length-3 : tie.Need-same-length-3
 same-length-3 c = search needs
 
 returns-5 : tie.Need-returns-5
 unfolding effectOf
-returns-5 c = ran _ _ _ _ _ _ _ (c .before .before .before .before .before .command4 .given .1) (c .before .before .clear-shorts .ensures)
+returns-5 c = ran _ _ _ _ _ _ _ (c .before .before .before .before .before .command4 .given .1) (c .before .before .feed .ensures)
 
 same-length-4 : tie.Need-same-length-4
 same-length-4 c = search needs
 
 returns-6 : tie.Need-returns-6
 unfolding effectOf
-returns-6 c = ran _ _ _ _ _ _ _ (c .before .before .before .before .before .command5 .given .1) (c .before .before .feed .ensures)
+returns-6 c = ran _ _ _ _ _ _ _ (c .before .before .before .before .before .command5 .given .1) (c .before .before .faults .ensures)
 
 same-length-5 : tie.Need-same-length-5
 same-length-5 c = search needs
 
 returns-7 : tie.Need-returns-7
 unfolding effectOf
-returns-7 c = ran _ _ _ _ _ _ _ (c .before .before .before .before .before .command6 .given .1) (c .before .before .faults .ensures)
-
-same-length-6 : tie.Need-same-length-6
-same-length-6 c = search needs
+returns-7 c = ran _ _ _ _ _ _ _ (c .before .before .before .before .before .command6 .given .1) (c .before .before .show .ensures)
 
 returns-8 : tie.Need-returns-8
 unfolding effectOf
-returns-8 c = ran _ _ _ _ _ _ _ (c .before .before .before .before .before .command7 .given .1) (c .before .before .show .ensures)
+returns-8 c = ran _ _ _ _ _ _ _ (c .before .before .command7 .given .1) (c .poke .ensures _)
 
 returns-9 : tie.Need-returns-9
 unfolding effectOf
-returns-9 c = ran _ _ _ _ _ _ _ (c .before .before .command8 .given .1) (c .poke .ensures _)
+returns-9 c = ran _ _ _ _ _ _ _ (c .before .before .command8 .given .1) (c .header .ensures _)
 
 returns-10 : tie.Need-returns-10
 unfolding effectOf
-returns-10 c = ran _ _ _ _ _ _ _ (c .before .before .command9 .given .1) (c .header .ensures _)
-
-returns-11 : tie.Need-returns-11
-unfolding effectOf
-returns-11 c = ran _ _ _ _ _ _ _ (c .before .enum-told2 .given .1) (c .check .ensures _)
+returns-10 c = ran _ _ _ _ _ _ _ (c .before .enum-told2 .given .1) (c .check .ensures _)
 
 pub run-spec : {M : Type 1} → statement M
 run-spec =
@@ -155,18 +141,16 @@ run-spec =
     enum-known-command-2
     call-requires
     enum-known-command-3
-    clear-opens-requires
+    clear-requires
     enum-known-command-4
-    clear-shorts-requires
-    enum-known-command-5
     feed-requires
-    enum-known-command-6
+    enum-known-command-5
     faults-requires
-    enum-known-command-7
+    enum-known-command-6
     show-requires
-    enum-known-command-8
+    enum-known-command-7
     poke-requires
-    enum-known-command-9
+    enum-known-command-8
     header-requires
     enum-told-2
     check-requires
@@ -182,8 +166,6 @@ run-spec =
     returns-6
     same-length-5
     returns-7
-    same-length-6
     returns-8
     returns-9
-    returns-10
-    returns-11)
+    returns-10)
