@@ -37,8 +37,8 @@
 extern "C" {
 #endif
 
-#define LP586X_VERSION "1.0.0"
-#define LP586X_VERSION_MAJOR 1
+#define LP586X_VERSION "2.0.0"
+#define LP586X_VERSION_MAJOR 2
 #define LP586X_VERSION_MINOR 0
 #define LP586X_VERSION_PATCH 0
 
@@ -143,9 +143,9 @@ uint32_t lp586x_update(uint8_t *record, size_t record_size, uint8_t *buffer, siz
  * Changes record, buffer, n and t, none null. */
 uint32_t lp586x_reset(uint8_t *record, size_t record_size, uint8_t *buffer, size_t buffer_size, uint32_t *n, uint32_t *t);
 
-/* The open bits and the short bits of the chip to 0, by one write. Several of these calls may run side by side on one record. 0 stores n
- * and t. 14, 10 (buffer under 10).
- * Reads record, changes buffer, n and t, none null. */
+/* The open bits and the short bits of the chip to 0, by one write; such calls may run side by side on one record. 0 stores n and t. 14, 10
+ * (buffer under 10).
+ * Reads record and changes buffer, n and t, none null. */
 uint32_t lp586x_clear(const uint8_t *record, size_t record_size, uint8_t *buffer, size_t buffer_size, uint32_t *n, uint32_t *t);
 
 /* Where a transaction stands in a list: length bytes from offset on. The index counts from 0, and the list's size is 4 + 2n + t, not that

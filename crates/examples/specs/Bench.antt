@@ -1,9 +1,11 @@
--- The table of document 01's starred bench examples, computed from the definitions: `starred`.
+-- The table of document 01's starred bench examples and of the fixed strings, Clear's as of document 02, computed from the definitions:
+-- `starred`.
 -- Assumes nothing.
-use mathlib.Core.Path.{_≡_, refl}
+use mathlib.Core.Path.{_≡_, refl, sym}
 use mathlib.Core.List.{List, [], _∷_}
-use Prim.Native.Nat.{ℕ}
-use lib.ListN.{getD, set, replicate}
+use Prim.Native.Nat.{ℕ, _≤_}
+use native.Mathlib.Omega.{arith}
+use lib.ListN.{length, getD, set, replicate}
 use Rattle.map.specs.declared.dots.Field.the-variants.{Current}
 use Rattle.map.specs.declared.dots.Place.the-variants.{At}
 use Rattle.map.specs.Refusals.{answerNumber, openAnswer, opens}
@@ -20,7 +22,8 @@ use Rattle.calls.specs.declared.Request.the-variants.{Set, Update}
 use Rattle.host.specs.declared.Record.{Record}
 use Rattle.host.specs.Record.{headerOf, recordOf, soundOf, mayWrite, whenSound, opened, openHost, openOf, registerAnswer, whenDot, lampAnswer, argumentsAnswer, settingAnswer, putSetting, changedTo, settingOf, lampOf}
 use Rattle.host.specs.SoundLaws.{is-sound, open-sound}
-use Rattle.update.specs.Update.{over, sendAnswer, sendBuffer, writesOf, commandWrite, command, resetBuffer, clearOpensBuffer, clearShortsBuffer}
+use Rattle.update.specs.Update.{listSize, over, Sending, sendAnswer, sendBuffer, writesOf, resetting, resetBuffer, clearing, clearBuffer}
+use Rattle.update.specs.SendLaws.{send-listed}
 use Rattle.history.specs.Step.{stepOf}
 use Rattle.history.specs.History.{Call, worldAfter}
 
@@ -58,20 +61,14 @@ lit v l s level = putLevel (set (resetImage 0) 0x001 v) (dotNumber l s) level
 abbrev fresh : ℕ → Record
 fresh bus = openOf 0 bus 0 .host
 
--- the buffer after a command, with v to a, of a new record
-abbrev ordered : ℕ → ℕ → ℕ → List ℕ
-ordered bus a v = over (encode (fresh bus .header .bus) (fresh bus .header .pins) (commandWrite a v)) (replicate 9 0)
-
 -- the command strings of a record with pins 0, on I2C and on SPI
 pub record FixedBytes : Type 0 where
   -- "One write of FFh to 0A9h; its 9 list bytes"
   pub reset-i2c : resetBuffer (fresh 0) (replicate 9 0) ≡ 0x01 ∷ 0x00 ∷ 0x03 ∷ 0x00 ∷ 0x03 ∷ 0x00 ∷ 0x80 ∷ 0xA9 ∷ 0xFF ∷ []
   pub reset-spi : resetBuffer (fresh 1) (replicate 9 0) ≡ 0x01 ∷ 0x00 ∷ 0x03 ∷ 0x00 ∷ 0x03 ∷ 0x00 ∷ 0x2A ∷ 0x60 ∷ 0xFF ∷ []
-  -- "The fixed bytes: one write of 0Fh to 0A7h, or to 0A8h."
-  pub clear-opens-i2c : clearOpensBuffer (fresh 0) (replicate 9 0) ≡ 0x01 ∷ 0x00 ∷ 0x03 ∷ 0x00 ∷ 0x03 ∷ 0x00 ∷ 0x80 ∷ 0xA7 ∷ 0x0F ∷ []
-  pub clear-opens-spi : clearOpensBuffer (fresh 1) (replicate 9 0) ≡ 0x01 ∷ 0x00 ∷ 0x03 ∷ 0x00 ∷ 0x03 ∷ 0x00 ∷ 0x29 ∷ 0xE0 ∷ 0x0F ∷ []
-  pub clear-shorts-i2c : clearShortsBuffer (fresh 0) (replicate 9 0) ≡ 0x01 ∷ 0x00 ∷ 0x03 ∷ 0x00 ∷ 0x03 ∷ 0x00 ∷ 0x80 ∷ 0xA8 ∷ 0x0F ∷ []
-  pub clear-shorts-spi : clearShortsBuffer (fresh 1) (replicate 9 0) ≡ 0x01 ∷ 0x00 ∷ 0x03 ∷ 0x00 ∷ 0x03 ∷ 0x00 ∷ 0x2A ∷ 0x20 ∷ 0x0F ∷ []
+  -- "one write of 0Fh 0Fh from 0A7h, four bus bytes. It needs a buffer of 10 bytes"
+  pub clear-i2c : clearBuffer (fresh 0) (replicate 10 0) ≡ 0x01 ∷ 0x00 ∷ 0x04 ∷ 0x00 ∷ 0x04 ∷ 0x00 ∷ 0x80 ∷ 0xA7 ∷ 0x0F ∷ 0x0F ∷ []
+  pub clear-spi : clearBuffer (fresh 1) (replicate 10 0) ≡ 0x01 ∷ 0x00 ∷ 0x04 ∷ 0x00 ∷ 0x04 ∷ 0x00 ∷ 0x29 ∷ 0xE0 ∷ 0x0F ∷ 0x0F ∷ []
 
 pub record Starred : Type 0 where
   -- "5Eh at 001h: 11 lines, mode 3."
@@ -107,20 +104,18 @@ bench-spi : transactions (updated 1) ≡ benchTransactions
 unfolding openAnswer opens linesOf columnsOf hasColumn dotIn isDot numberIn kindOf dataMode isWide firstMasks firstMask noSink groupMask switchMask groupReserved switchReserved currentReserved pwmReserved reservedAs reservedOf writableOf firstReset switchBytesOf switchReset currentReset resetAs resetOf allFrom tableFrom table okByte okAt imageOk resetImage byteAt size16 nOf lengthsFrom lengths cutFrom transactions headFirst headSecond transactionOf listOf encode scan plan updateFor wideOf topLevel putLevel soundOf mayWrite whenSound opened openHost openOf registerAnswer whenDot lampAnswer argumentsAnswer settingAnswer putSetting changedTo settingOf writesOf sendAnswer sendBuffer
 bench-spi = refl
 
--- a new record is sound, so that its command is listed
-command-bytes : (bus a v : ℕ) (image : List ℕ) → sendBuffer (fresh bus) (command a v image) (replicate 9 0) ≡ ordered bus a v
-unfolding sendBuffer sendAnswer
-command-bytes bus a v image = rw (is-sound (fresh bus) (open-sound 0 bus 0)) refl
+-- a new record is sound, so that what it sends is listed where the buffer has room
+command-bytes : (bus : ℕ) (x : Sending) (buffer : List ℕ) → listSize (x .writes) ≤ length buffer →
+    sendBuffer (fresh bus) x buffer ≡ over (encode (fresh bus .header .bus) (fresh bus .header .pins) (x .writes)) buffer
+command-bytes bus x buffer h = sym (send-listed (fresh bus) x buffer (is-sound (fresh bus) (open-sound 0 bus 0)) h .buffer-is)
 
 fixed : FixedBytes
 unfolding openAnswer opens opened openHost openOf headFirst headSecond transactionOf listOf encode
 fixed = record {
-  reset-i2c = command-bytes 0 0x0A9 0xFF (resetImage (fresh 0 .header .member));
-  reset-spi = command-bytes 1 0x0A9 0xFF (resetImage (fresh 1 .header .member));
-  clear-opens-i2c = command-bytes 0 0x0A7 0x0F (fresh 0 .image);
-  clear-opens-spi = command-bytes 1 0x0A7 0x0F (fresh 1 .image);
-  clear-shorts-i2c = command-bytes 0 0x0A8 0x0F (fresh 0 .image);
-  clear-shorts-spi = command-bytes 1 0x0A8 0x0F (fresh 1 .image);
+  reset-i2c = command-bytes 0 (resetting (fresh 0)) (replicate 9 0) (omega arith);
+  reset-spi = command-bytes 1 (resetting (fresh 1)) (replicate 9 0) (omega arith);
+  clear-i2c = command-bytes 0 (clearing (fresh 0)) (replicate 10 0) (omega arith);
+  clear-spi = command-bytes 1 (clearing (fresh 1)) (replicate 10 0) (omega arith);
 }
 
 pub starred : Starred

@@ -71,13 +71,12 @@ isRoom Nothing = false
 isRoom (Word k) = false
 isRoom (Room n) = true
 
--- "The last list is that of the last accepted `update`, `reset`, `clearopens` or `clearshorts`": the calls that are lent a buffer, and the Clears
+-- "The last list is that of the last accepted `update`, `reset` or `clear`": the calls that are lent a buffer, and Clear
 unfoldable pub writesList : Command → Bool
 writesList commands.Bad = false
 writesList (commands.Open m b p) = false
 writesList (commands.Call q lent) = isRoom lent
-writesList (commands.ClearOpens n) = true
-writesList (commands.ClearShorts n) = true
+writesList (commands.Clear n) = true
 writesList (commands.Feed k) = false
 writesList (commands.Faults m k n) = false
 writesList (commands.Show part) = false
