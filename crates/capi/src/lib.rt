@@ -225,12 +225,7 @@ pub extern "C" fn lp586x_reset(bytes: &mut [u8], buffer: &mut [u8], n: &mut u32,
 }
 
 #[no_mangle]
-pub extern "C" fn lp586x_clear(
-    bytes: &[u8],
-    buffer: &mut [u8],
-    n: &mut u32,
-    t: &mut u32,
-) -> u32
+pub extern "C" fn lp586x_clear(bytes: &[u8], buffer: &mut [u8], n: &mut u32, t: &mut u32) -> u32
     ensures { λ r. ⌜ r ≡ clearCall (now (bytes .entry)) (now (buffer .entry)) (now (n .entry)) (now (t .entry)) .answer ⌝ }
     ensures { λ _. ⌜ now (buffer .exit) ≡ clearCall (now (bytes .entry)) (now (buffer .entry)) (now (n .entry)) (now (t .entry)) .buffer ⌝ }
     ensures { λ _. ⌜ now (n .exit) ≡ clearCall (now (bytes .entry)) (now (buffer .entry)) (now (n .entry)) (now (t .entry)) .n ⌝ }

@@ -76,10 +76,10 @@ clears-commute : (rs : List ℕ) → lsdClear (lodClear rs) ≡ lodClear (lsdCle
 unfolding lodClear lsdClear
 clears-commute rs =
     ext-getD 0 _ _ (both 0x086 0xFE 0x065 0xFD ∙ sym (both 0x065 0xFD 0x086 0xFE)) (λ k h.
-      let s : k < length rs = omega (arith, both 0x086 0xFE 0x065 0xFD) in
-      at 0x086 0xFE 0x065 0xFD k (omega arith) (omega arith) s
-      ∙ order (eqb k 0x064) (leb 0x065 k && leb k 0x085) (leb 0x086 k && leb k 0x0A6) (getD rs k 0)
-      ∙ sym (at 0x065 0xFD 0x086 0xFE k (omega arith) (omega arith) s))
+    let s : k < length rs = omega (arith, both 0x086 0xFE 0x065 0xFD) in
+    at 0x086 0xFE 0x065 0xFD k (omega arith) (omega arith) s
+    ∙ order (eqb k 0x064) (leb 0x065 k && leb k 0x085) (leb 0x086 k && leb k 0x0A6) (getD rs k 0)
+    ∙ sym (at 0x065 0xFD 0x086 0xFE k (omega arith) (omega arith) s))
   where
     both : (f v g w : ℕ) → length (faultsOff f v (faultsOff g w rs)) ≡ length rs
     both f v g w = off-length f v (faultsOff g w rs) ∙ off-length g w rs
@@ -214,10 +214,10 @@ module _ (c : Chip) (s : Sound c) where
       let lod : Short lodWrite = (omega arith, omega arith, omega arith) in
       let lsd : Short lsdWrite = (omega arith, omega arith, omega arith) in
       let clear : fed c clearWrite ≡ after (hears (c .registers) clearWrite) =
-          once (c .registers) clearWrite (s .registers) (omega arith, omega arith, omega arith) in
+      once (c .registers) clearWrite (s .registers) (omega arith, omega arith, omega arith) in
       let both = hear-both (c .member) (c .registers) in
       let kept : (b : Burst) → 0x000 < b .start → b .start + length (b .bytes) ≤ 0x0A9 → isOn (c .registers) ≡ false → after (hears (c .registers) b) ≡ c =
-          λ b l h e. ap after (hear-unheard (c .member) (c .registers) b l h e) in
+      λ b l h e. ap after (hear-unheard (c .member) (c .registers) b l h e) in
       record {
         opens-first = twice lodWrite lsdWrite lod lsd ∙ ap after (both .opens-first) ∙ sym clear;
         shorts-first = twice lsdWrite lodWrite lsd lod ∙ ap after (both .shorts-first) ∙ sym clear;

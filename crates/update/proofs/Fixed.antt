@@ -5,7 +5,7 @@ use mathlib.Core.Bool.{Bool, true, false, cond}
 use mathlib.Core.List.{List}
 use Prim.Native.Nat.{ℕ, _+_, _-_, _*_, _/_, _%_, _<_, _≤_}
 use native.Mathlib.Omega.{arith}
-use borrow.Author.Tests.{eq-eqb, ne-eqb, eqb-true}
+use borrow.Author.Tests.{eq-eqb, ne-eqb, eqb-true, le-leb, lt-leb}
 use lib.Dec.{eqb}
 use lib.Bits.{bitOr}
 use lib.ListN.{length, getD, set, take, drop}
@@ -23,7 +23,7 @@ use Rattle.writes.specs.WrittenLaws.{sets-front}
 use Rattle.update.specs.declared.ListAnswer.{ListAnswer}
 use Rattle.update.specs.declared.ListAnswer.the-variants.{Listed, Refused}
 use Rattle.update.specs.Update.{isListed, listSize, over, sendAnswer, sendOf, sendBuffer, commandWrite, command, resetAnswer, chipResetOf, clearing, clearAnswer, clearOf}
-use Rattle.update.specs.SendLaws.{send-unsound, send-short, send-listed, sent-is, clear-leaves}
+use Rattle.update.specs.SendLaws.{listed-room, sent-is, clear-leaves}
 
 -- ---- the strings
 
@@ -38,54 +38,62 @@ pins-in pins a = at (4 * (a / 256 % 4) + pins % 4) (a / 256 % 4) (pins % 4) (ome
     at : (k x p : ℕ) → k < 16 → k / 4 ≡ x → k % 4 ≡ p → bitOr (0x80 + 2 * x) (8 * p) ≡ 0x80 + 8 * p + 2 * x
     at k x p h ex ep = rw (sym ex, sym ep) (eqb-true (bitOr (0x80 + 2 * (k / 4)) (8 * (k % 4))) (0x80 + 8 * (k % 4) + 2 * (k / 4)) (all-at pins-test 0 16 refl k (omega arith) h))
 
-module _ (header : Header) (i2c spi buffer : List ℕ) where
-  -- the buffer with the string of the record's bus in front, where the strings are those of one write and the buffer has room
+module _ (answer : ListAnswer) (header : Header) (i2c spi buffer : List ℕ) where
+  -- the buffer with the string of the record's bus in front, where the strings are those of one write and a list was answered
   abbrev pub InFront : List ℕ → Type 0
   InFront new =
-      (a : ℕ) (bytes : List ℕ) → i2c ≡ encode 0 0 (commandWrite a bytes) → spi ≡ encode 1 0 (commandWrite a bytes) → length i2c ≤ length buffer →
-      new ≡ over (encode (header .bus) (header .pins) (commandWrite a bytes)) buffer
+      (a : ℕ) (bytes : List ℕ) → i2c ≡ encode 0 0 (commandWrite a bytes) → spi ≡ encode 1 0 (commandWrite a bytes) →
+      (isListed answer ≡ true → listSize (commandWrite a bytes) ≤ length buffer) →
+      new ≡ cond (isListed answer) (over (encode (header .bus) (header .pins) (commandWrite a bytes)) buffer) buffer
 
   -- a string, copied to the front
-  copied : (string : List ℕ) → length string ≤ length buffer → sets buffer 0 (take (length string) (drop 0 string)) ≡ over string buffer
-  copied string h = ap (sets buffer 0) (take-length string) ∙ sets-front string buffer h
+  copied : (bus a : ℕ) (bytes string : List ℕ) → string ≡ encode bus 0 (commandWrite a bytes) → listSize (commandWrite a bytes) ≤ length buffer →
+      sets buffer 0 (take (length string) (drop 0 string)) ≡ over string buffer
+  copied bus a bytes string e h =
+      ap (sets buffer 0) (take-length string) ∙ sets-front string buffer (omega (arith, ap length e, encode-length bus 0 (commandWrite a bytes)))
 
-  pub i2c-put : (copy : List ℕ) → copy ≡ sets buffer 0 (take (length i2c) (drop 0 i2c)) → header .bus ≡ 0 →
+  pub i2c-put : isListed answer ≡ true → (copy : List ℕ) → copy ≡ sets buffer 0 (take (length i2c) (drop 0 i2c)) → header .bus ≡ 0 →
       InFront (set copy 6 (bitOr (getD copy 6 0) (8 * (header .pins % 4))))
   unfolding encode listOf transactionOf
-  i2c-put copy c z a bytes e f h =
-      rw (c ∙ copied i2c h, e, z) (rw (pins-in (header .pins) a) refl)
+  i2c-put l copy c z a bytes e f h = rw (c ∙ copied 0 a bytes i2c e (h l), e, z, l) (rw (pins-in (header .pins) a) refl)
 
-  pub spi-put : (copy : List ℕ) → copy ≡ sets buffer 0 (take (length spi) (drop 0 spi)) → (header .bus ≡ 0 → ⊥) → InFront copy
+  pub spi-put : isListed answer ≡ true → (copy : List ℕ) → copy ≡ sets buffer 0 (take (length spi) (drop 0 spi)) → (header .bus ≡ 0 → ⊥) → InFront copy
   unfolding encode listOf transactionOf headFirst headSecond
-  spi-put copy c n a bytes e f h =
-      c ∙ copied spi (omega (arith, ap length e ∙ encode-length 0 0 (commandWrite a bytes), ap length f ∙ encode-length 1 0 (commandWrite a bytes))) ∙ rw (f, ne-eqb (header .bus) 0 n) refl
+  spi-put l copy c n a bytes e f h = c ∙ copied 1 a bytes spi f (h l) ∙ rw (f, ne-eqb (header .bus) 0 n, l) refl
+
+  pub nothing-put : isListed answer ≡ false → InFront buffer
+  nothing-put l a bytes e f h = rw l refl
 
 -- ---- a command
 
-module _ (r : Record) (buffer i2c spi : List ℕ) where
-  -- the answer and the buffer of a command, where the strings are those of its write
-  abbrev pub Ordered : ListAnswer → List ℕ → Type 0
-  Ordered answer new =
-      (a : ℕ) (bytes image : List ℕ) → i2c ≡ encode 0 0 (commandWrite a bytes) → spi ≡ encode 1 0 (commandWrite a bytes) →
-      (answer ≡ sendAnswer r (command a bytes image) (length buffer)) × (new ≡ sendBuffer r (command a bytes image) buffer)
+module _ (r : Record) (room size : ℕ) where
+  -- the answer of a command whose list has so many bytes
+  abbrev pub Answers : ListAnswer → Type 0
+  Answers answer = (a : ℕ) (bytes image : List ℕ) → size ≡ listSize (commandWrite a bytes) → answer ≡ sendAnswer r (command a bytes image) room
 
-  -- the I2C string is as long as the list
-  sized : (a : ℕ) (bytes : List ℕ) → i2c ≡ encode 0 0 (commandWrite a bytes) → length i2c ≡ listSize (commandWrite a bytes)
-  sized a bytes e = ap length e ∙ encode-length 0 0 (commandWrite a bytes)
+  pub command-unsound : soundOf r ≡ false → Answers (Refused Unsound)
+  unfolding sendAnswer
+  command-unsound u a bytes image e = rw u refl
 
-  pub command-unsound : soundOf r ≡ false → Ordered (Refused Unsound) buffer
-  command-unsound u a bytes image e f = let l = send-unsound r (command a bytes image) buffer u in (l .answer-is, l .buffer-is)
+  pub command-short : soundOf r ≡ true → room < size → Answers (Refused BufferShort)
+  unfolding sendAnswer
+  command-short s h a bytes image e = rw (s, lt-leb (listSize (commandWrite a bytes)) room (omega (arith, e))) refl
 
-  pub command-short : soundOf r ≡ true → length buffer < length i2c → Ordered (Refused BufferShort) buffer
-  command-short s h a bytes image e f =
-      let l = send-short r (command a bytes image) buffer refl s (omega (arith, sized a bytes e)) in
-      (l .answer-is, l .buffer-is)
+  pub command-listed : soundOf r ≡ true → size ≤ room → Answers (Listed 1 (size - 6))
+  unfolding sendAnswer
+  command-listed s h a bytes image e =
+      rw (s, le-leb (listSize (commandWrite a bytes)) room (omega (arith, e))) (ap (Listed 1) (omega (arith, e)))
 
-  pub command-listed : (new : List ℕ) → soundOf r ≡ true → length i2c ≤ length buffer → InFront (r .header) i2c spi buffer new →
-      Ordered (Listed 1 (length i2c - 6)) new
-  command-listed new s h put a bytes image e f =
-      let l = send-listed r (command a bytes image) buffer s (omega (arith, sized a bytes e)) in
-      (ap (Listed 1) (omega (arith, sized a bytes e)) ∙ l .answer-is, put a bytes e f h ∙ l .buffer-is)
+-- a list is answered only where there is room for it
+module _ (r : Record) (buffer : List ℕ) (answer : ListAnswer) (a : ℕ) (bytes image : List ℕ) (e : answer ≡ sendAnswer r (command a bytes image) (length buffer)) where
+  pub has-room : isListed answer ≡ true → listSize (commandWrite a bytes) ≤ length buffer
+  has-room l = listed-room r (command a bytes image) refl (length buffer) (sym (ap isListed e) ∙ l)
+
+  pub command-buffer : (new : List ℕ) →
+      new ≡ cond (isListed answer) (over (encode (r .header .bus) (r .header .pins) (commandWrite a bytes)) buffer) buffer →
+      new ≡ sendBuffer r (command a bytes image) buffer
+  unfolding sendBuffer
+  command-buffer new n = n ∙ rw e refl
 
 -- ---- the calls by value
 

@@ -73,6 +73,15 @@ module _ (r : Record) (x : Sending) where
       go true ea false eb q = absurd (false≢true (sym s ∙ ap isListed q))
       go false ea b eb q = absurd (false≢true (ap isListed q))
 
+  -- a list is answered only where it has room
+  pub listed-room : isListed (x .short) ≡ false → (size : ℕ) → isListed (sendAnswer r x size) ≡ true → listSize (x .writes) ≤ size
+  listed-room s size l = go (sendAnswer r x size) refl l
+    where
+      go : (answer : ListAnswer) → sendAnswer r x size ≡ answer → isListed answer ≡ true → listSize (x .writes) ≤ size
+      go (Listed n t) e l = answered s size n t e .room
+      go (Short needed) e l = absurd (false≢true l)
+      go (Refused refusal) e l = absurd (false≢true l)
+
   -- a list was written
   pub list-is : (buffer : List ℕ) (n t : ℕ) → sendAnswer r x (length buffer) ≡ Listed n t →
       sendBuffer r x buffer ≡ over (encode (r .header .bus) (r .header .pins) (x .writes)) buffer
