@@ -41,22 +41,23 @@ leftAt from mask k x = cond (eqb k 0x064) (bitAnd x mask) (cond (leb from k && l
 off-length : (from mask : ℕ) (rs : List ℕ) → length (faultsOff from mask rs) ≡ length rs
 off-length from mask rs = filled-length (λ a. 0) from 33 _ ∙ length-set rs 0x064 _
 
+-- other bytes than 064h and these 33 stay
+off-outside : (from mask : ℕ) (rs : List ℕ) (k : ℕ) → (k ≡ 0x064 → ⊥) → (from ≤ k → k ≤ from + 32 → ⊥) → getD (faultsOff from mask rs) k 0 ≡ getD rs k 0
+off-outside from mask rs k n out =
+    filled-out (λ a. 0) from 33 (stateOff mask rs) k (λ l u. out l (omega arith)) ∙ getD-set-other rs 0x064 k _ 0 n
+
 off-at : (from mask : ℕ) (rs : List ℕ) (k : ℕ) → 0x064 < from → k < length rs → getD (faultsOff from mask rs) k 0 ≡ leftAt from mask k (getD rs k 0)
 off-at from mask rs k f h = go (ℕ-discrete k 0x064) (decLe from k) (decLe k (from + 32))
   where
-    out : (from ≤ k → k ≤ from + 32 → ⊥) → getD (faultsOff from mask rs) k 0 ≡ getD (stateOff mask rs) k 0
-    out n = filled-out (λ a. 0) from 33 (stateOff mask rs) k (λ l u. n l (omega arith))
-
-    other : (k ≡ 0x064 → ⊥) → getD (stateOff mask rs) k 0 ≡ getD rs k 0
-    other n = getD-set-other rs 0x064 k _ 0 n
-
     go : Dec (k ≡ 0x064) → Dec (from ≤ k) → Dec (k ≤ from + 32) → getD (faultsOff from mask rs) k 0 ≡ leftAt from mask k (getD rs k 0)
-    go (yes e) l u = out (λ a b. omega arith) ∙ rw e (getD-set-same rs 0x064 _ 0 (omega arith))
+    go (yes e) l u =
+        filled-out (λ a. 0) from 33 (stateOff mask rs) k (λ a b. omega arith) ∙ rw e (getD-set-same rs 0x064 _ 0 (omega arith))
     go (no n) (yes l) (yes u) =
         filled-in (λ a. 0) from 33 (stateOff mask rs) k l (omega arith) (omega (arith, length-set rs 0x064 (bitAnd (getD rs 0x064 0) mask)))
         ∙ rw (ne-eqb k 0x064 n, le-leb from k l, le-leb k (from + 32) u) refl
-    go (no n) (yes l) (no u) = out (λ a b. u b) ∙ other n ∙ rw (ne-eqb k 0x064 n, le-leb from k l, lt-leb k (from + 32) (omega arith)) refl
-    go (no n) (no l) u = out (λ a b. l a) ∙ other n ∙ rw (ne-eqb k 0x064 n, lt-leb from k (omega arith)) refl
+    go (no n) (yes l) (no u) =
+        off-outside from mask rs k n (λ a b. u b) ∙ rw (ne-eqb k 0x064 n, le-leb from k l, lt-leb k (from + 32) (omega arith)) refl
+    go (no n) (no l) u = off-outside from mask rs k n (λ a b. l a) ∙ rw (ne-eqb k 0x064 n, lt-leb from k (omega arith)) refl
 
 -- 064h without bit 1 and then without bit 0 is 064h without them in the other order
 masks-test : ℕ → Bool
@@ -95,13 +96,18 @@ clears-commute rs =
     order false true false x = refl
     order false false s x = refl
 
--- neither touches 000h
-still-on : (rs : List ℕ) → (isOn (lodClear rs) ≡ isOn rs) × (isOn (lsdClear rs) ≡ isOn rs)
+-- neither touches a byte outside 064h to 0A6h
+pub clear-outside : (rs : List ℕ) (k : ℕ) → (0x064 ≤ k → k ≤ 0x0A6 → ⊥) → (getD (lodClear rs) k 0 ≡ getD rs k 0) × (getD (lsdClear rs) k 0 ≡ getD rs k 0)
 unfolding lodClear lsdClear
-still-on rs = (ap (λ (x : ℕ). eqb (x % 2) 1) (at 0x065 0xFD (omega arith)), ap (λ (x : ℕ). eqb (x % 2) 1) (at 0x086 0xFE (omega arith)))
-  where
-    at : (from mask : ℕ) → 0 < from → getD (faultsOff from mask rs) 0x000 0 ≡ getD rs 0x000 0
-    at from mask h = filled-out (λ a. 0) from 33 _ 0x000 (λ l u. omega arith) ∙ getD-set-other rs 0x064 0x000 _ 0 (λ e. omega arith)
+clear-outside rs k out =
+    let no : k ≡ 0x064 → ⊥ = λ e. out (omega arith) (omega arith) in
+    (off-outside 0x065 0xFD rs k no (λ l u. out (omega arith) (omega arith)), off-outside 0x086 0xFE rs k no (λ l u. out (omega arith) (omega arith)))
+
+-- so the chip stays on, or in standby
+still-on : (rs : List ℕ) → (isOn (lodClear rs) ≡ isOn rs) × (isOn (lsdClear rs) ≡ isOn rs)
+still-on rs =
+    let out = clear-outside rs 0x000 (λ l u. omega arith) in
+    (ap (λ (x : ℕ). eqb (x % 2) 1) (out .0), ap (λ (x : ℕ). eqb (x % 2) 1) (out .1))
 
 -- ---- the writes
 
@@ -127,7 +133,7 @@ module _ (m : ℕ) where
   hear-lsd rs e =
       ap (λ (on : Bool). hearData m on 0x0A8 (0x0F ∷ []) rs) e ∙ data-next m true 0x0A8 0x0F [] rs refl ∙ data-none m true 0x0A9 (lsdClear rs)
 
-  pub hear-clear : (rs : List ℕ) → isOn rs ≡ true → hear m rs clearWrite ≡ lsdClear (lodClear rs)
+  hear-clear : (rs : List ℕ) → isOn rs ≡ true → hear m rs clearWrite ≡ lsdClear (lodClear rs)
   unfolding hear hearByte heardByte heard isCommand
   hear-clear rs e =
       ap (λ (on : Bool). hearData m on 0x0A7 (0x0F ∷ 0x0F ∷ []) rs) e
@@ -143,7 +149,7 @@ module _ (m : ℕ) where
       data-next m false a v vs rs (not-command 0x0A9 0xFF a v (λ e. omega arith))
       ∙ rw (ne-eqb a 0x000 (λ e. omega arith), ne-eqb a 0x0A9 (λ e. omega arith)) (unheard rs (suc a) vs (omega arith) (omega arith))
 
-  pub hear-unheard : (rs : List ℕ) (b : Burst) → 0x000 < b .start → b .start + length (b .bytes) ≤ 0x0A9 → isOn rs ≡ false → hear m rs b ≡ rs
+  hear-unheard : (rs : List ℕ) (b : Burst) → 0x000 < b .start → b .start + length (b .bytes) ≤ 0x0A9 → isOn rs ≡ false → hear m rs b ≡ rs
   unfolding hear
   hear-unheard rs b l h e = ap (λ (on : Bool). hearData m on (b .start) (b .bytes) rs) e ∙ unheard rs (b .start) (b .bytes) l h
 
@@ -171,6 +177,15 @@ module _ (m : ℕ) where
           let lsd = off lsdWrite (omega arith) (omega arith) in
           let clear = off clearWrite (omega arith) (omega arith) in
           record { opens-first = next lsdWrite _ _ lod ∙ lsd ∙ sym clear; shorts-first = next lodWrite _ _ lsd ∙ lod ∙ sym clear }
+
+  -- whatever the write clears, it touches no byte outside 064h to 0A6h
+  pub hear-clear-outside : (rs : List ℕ) (k : ℕ) → (0x064 ≤ k → k ≤ 0x0A6 → ⊥) → getD (hear m rs clearWrite) k 0 ≡ getD rs k 0
+  hear-clear-outside rs k out = go (isOn rs) refl
+    where
+      go : (on : Bool) → isOn rs ≡ on → getD (hear m rs clearWrite) k 0 ≡ getD rs k 0
+      go true e =
+          ap (λ (x : List ℕ). getD x k 0) (hear-clear rs e) ∙ clear-outside (lodClear rs) k out .1 ∙ clear-outside rs k out .0
+      go false e = ap (λ (x : List ℕ). getD x k 0) (hear-unheard rs clearWrite (omega arith) (omega arith) e)
 
 -- ---- their lists
 
@@ -208,22 +223,25 @@ module _ (c : Chip) (s : Sound c) where
       ap (λ (x : Chip). fed x b) (once (c .registers) a (s .registers) ha)
       ∙ once (hears (c .registers) a) b (hear-registers (c .member) (c .registers) a (s .registers)) hb
 
+  -- Clear's own list
+  pub fed-clear : fed c clearWrite ≡ after (hears (c .registers) clearWrite)
+  unfolding Short
+  fed-clear = once (c .registers) clearWrite (s .registers) (omega arith, omega arith, omega arith)
+
   pub fed-both : FedBoth c
   unfolding Short
   fed-both =
       let lod : Short lodWrite = (omega arith, omega arith, omega arith) in
       let lsd : Short lsdWrite = (omega arith, omega arith, omega arith) in
-      let clear : fed c clearWrite ≡ after (hears (c .registers) clearWrite) =
-      once (c .registers) clearWrite (s .registers) (omega arith, omega arith, omega arith) in
       let both = hear-both (c .member) (c .registers) in
       let kept : (b : Burst) → 0x000 < b .start → b .start + length (b .bytes) ≤ 0x0A9 → isOn (c .registers) ≡ false → after (hears (c .registers) b) ≡ c =
       λ b l h e. ap after (hear-unheard (c .member) (c .registers) b l h e) in
       record {
-        opens-first = twice lodWrite lsdWrite lod lsd ∙ ap after (both .opens-first) ∙ sym clear;
-        shorts-first = twice lsdWrite lodWrite lsd lod ∙ ap after (both .shorts-first) ∙ sym clear;
+        opens-first = twice lodWrite lsdWrite lod lsd ∙ ap after (both .opens-first) ∙ sym fed-clear;
+        shorts-first = twice lsdWrite lodWrite lsd lod ∙ ap after (both .shorts-first) ∙ sym fed-clear;
         standby = λ e. (
           once (c .registers) lodWrite (s .registers) lod ∙ kept lodWrite (omega arith) (omega arith) e,
           once (c .registers) lsdWrite (s .registers) lsd ∙ kept lsdWrite (omega arith) (omega arith) e,
-          clear ∙ kept clearWrite (omega arith) (omega arith) e,
+          fed-clear ∙ kept clearWrite (omega arith) (omega arith) e,
         );
       }

@@ -1,18 +1,20 @@
--- What Clear does to the chip: document 02, Q-1.
+-- What Clear does to the chip: document 02, Q-1; and that it takes nothing from demand 3.
 -- Assumes nothing.
 use mathlib.Core.Path.{_≡_}
 use mathlib.Core.Bool.{true, false}
-use mathlib.Core.List.{List, [], _∷_}
+use mathlib.Core.List.{List, [], _∷_, _++_}
 use Prim.Native.Nat.{ℕ, _≤_}
 use lib.ListN.{length}
+use Rattle.map.specs.Refusals.{accepted}
 use Rattle.burst.specs.Burst.{encode}
 use Rattle.host.specs.declared.Record.{Record}
-use Rattle.host.specs.Record.{soundOf}
+use Rattle.host.specs.Record.{soundOf, openOf}
 use Rattle.update.specs.Update.{commandWrite}
 use Rattle.chip.specs.declared.Chip.{Chip}
 use Rattle.chip.specs.Chip.{isOn, feedOf}
 use Rattle.history.specs.declared.World.{World}
 use Rattle.history.specs.Step.{clearStep}
+use Rattle.history.specs.History.{Call, start, run, ledgerAfter, Demand3}
 
 -- the chip, fed the list of one write of 0Fh to a; the record says with which heads
 abbrev pub fedOnce : Record → ℕ → Chip → Chip
@@ -38,6 +40,29 @@ pub record Paired (w : World) : Type 0 where
   pub bus : w .chip .bus ≡ w .host .header .bus
   pub pins : w .chip .pins ≡ w .host .header .pins
 
--- The claim, for every buffer that has room
+-- The claim, for every buffer that has room.
 abbrev pub ClearClaim : Type 0
 ClearClaim = (w : World) → Paired w → (buffer : List ℕ) → 10 ≤ length buffer → ClearsBoth w buffer × (isOn (w .chip .registers) ≡ false → ClearsNothing w buffer)
+
+-- ---- Clears among the calls of demand 3
+
+-- some calls of demand 3's list, and behind them a Clear with this buffer
+pub record Stretch : Type 0 where
+  pub calls : List Call
+  pub buffer : List ℕ
+
+-- the record and its chip after these stretches
+abbrev pub runClears : World → List Stretch → World
+runClears w [] = w
+runClears w (x ∷ xs) = runClears (clearStep (run w (x .calls)) (x .buffer) .world) xs
+
+-- their calls, the Clears left out
+abbrev pub callsOf : List Stretch → List Call
+callsOf [] = []
+callsOf (x ∷ xs) = x .calls ++ callsOf xs
+
+-- With Clears wherever one likes, accepted or refused, demand 3 is owed for all calls behind them, with the ledger of all calls before.
+abbrev pub ClearedLists : Type 0
+ClearedLists =
+    (m b p : ℕ) → accepted (openOf m b p .answer) ≡ true → (stretches : List Stretch) (behind : List Call) →
+    Demand3 m b p (ledgerAfter m b p (callsOf stretches)) (runClears (start m b p) stretches) behind

@@ -1,23 +1,35 @@
--- The claim about Clear holds, by the chip's laws about its writes.
+-- The claims about Clear hold, by the chip's laws about its writes: `clear-claim` and `cleared-lists`.
 -- Assumes nothing.
-use mathlib.Core.Path.{_≡_, refl, sym, ap, ap₂, _∙_}
-use mathlib.Core.Bool.{false}
-use mathlib.Core.List.{List, [], _∷_}
+use mathlib.Core.Path.{_≡_, refl, sym, ap, ap₂, _∙_, subst}
+use mathlib.Core.Bool.{true, false, false≢true}
+use mathlib.Core.List.{List, [], _∷_, map, map-append}
 use Prim.Native.Nat.{ℕ, _≤_}
+use native.Mathlib.Omega.{arith}
 use lib.ListN.{length}
+use Rattle.map.specs.Refusals.{opens}
+use Rattle.map.specs.Map.{writableOf}
+use Rattle.map.specs.ByteLaws.{middle-unwritable}
+use Rattle.map.specs.Images.{resetImage}
 use Rattle.burst.specs.Burst.{Burst, encode}
 use Rattle.host.specs.declared.Record.{Record}
+use Rattle.host.specs.Record.{headerOf, recordOf}
 use Rattle.update.specs.declared.ListAnswer.{ListAnswer}
-use Rattle.update.specs.Update.{commandWrite, sendOf, clearing}
+use Rattle.update.specs.Update.{sendOf, clearing}
 use Rattle.update.specs.SendLaws.{send-listed, clear-leaves}
 use Rattle.chip.specs.declared.Chip.{Chip}
-use Rattle.chip.specs.Chip.{isOn, feedOf}
-use Rattle.chip.specs.ChipLaws.{sound-is}
-use Rattle.chip.specs.ClearLaws.{lodWrite, lsdWrite, clearWrite, fed, FedBoth, fed-both}
+use Rattle.chip.specs.Chip.{chipOf, hear, feedOf}
+use Rattle.chip.specs.ChipLaws.{sound-is, hear-registers}
+use Rattle.chip.specs.ClearLaws.{lodWrite, lsdWrite, clearWrite, hear-clear-outside, fed, fed-clear, FedBoth, fed-both}
 use Rattle.history.specs.declared.World.{World}
+use Rattle.history.specs.Ledger.{Told, toldOf, entries, ledger}
+use Rattle.history.specs.LedgerLaws.{entries-append}
 use Rattle.history.specs.Step.{fedBy, clearStep}
-use Rattle.history.specs.WorldLaws.{front}
-use Rattle.history.specs.Clear.{fedOnce, ClearsBoth, ClearsNothing, Paired, ClearClaim}
+use Rattle.history.specs.History.{Call, start, run, ledgerAfter}
+use Rattle.history.specs.WorldLaws.{front, Holds, Follows, chip-sound, start-holds, sent-holds, run-holds, told-calls}
+use Rattle.history.specs.Theorem.{holds-owes, opened}
+use Rattle.history.specs.Clear.{Paired, ClearClaim, Stretch, runClears, callsOf, ClearedLists}
+
+-- ---- the chip after a Clear
 
 module _ (w : World) (p : Paired w) where
   -- the record's heads are the chip's own
@@ -58,3 +70,45 @@ clear-claim w p buffer h = (
 
     twice : (a b : Burst) → feeds b (feeds a (w .chip)) ≡ fed (fed (w .chip) a) b
     twice a b = ap (feeds b) (own w p a (w .chip) refl refl) ∙ own w p b (fed (w .chip) a) refl refl
+
+-- ---- Clears among the calls of demand 3
+
+-- no address from 064h to 0A6h is writable
+apart : (m a : ℕ) → writableOf m a ≡ true → 0x064 ≤ a → a ≤ 0x0A6 → ⊥
+apart m a k l h = false≢true (sym (middle-unwritable m a l (omega arith)) ∙ k)
+
+module _ (m b p : ℕ) (o : opens m b p ≡ true) where
+  -- a Clear keeps what holds after every call
+  clear-holds : (s : List ℕ) (w : World) → Holds m b p s w → (buffer : List ℕ) → Holds m b p s (clearStep w buffer .world)
+  clear-holds s w h buffer =
+      let host : Record = recordOf (headerOf m b p) s (h .image) in
+      let after : List ℕ = hear m (h .registers) clearWrite in
+      let follows : Follows m b p o s w h (clearing host) = record {
+        no-list = refl;
+        after = after;
+        fed = fed-clear (chipOf m b p (h .registers)) (chip-sound m b p o s w h);
+        image-fit = h .image-fit;
+        after-fit = hear-registers m (h .registers) clearWrite (h .registers-fit);
+        follows = λ a l k. h .same a l k ∙ sym (hear-clear-outside m (h .registers) a (apart m a k));
+      } in
+      subst (λ (x : World). Holds m b p s (clearStep x buffer .world)) (sym (h .is)) (sent-holds m b p o s w h (clearing host) follows buffer)
+
+  abbrev tells : List Call → List Told
+  tells = map (λ (c : Call). toldOf (c .request) (c .lent))
+
+  stretches-hold : (xs : List Stretch) (s : List ℕ) (w : World) → Holds m b p s w → Holds m b p (entries m s (tells (callsOf xs))) (runClears w xs)
+  stretches-hold [] s w h = h
+  stretches-hold (x ∷ xs) s w h =
+      let ran : Holds m b p (entries m s (tells (x .calls))) (run w (x .calls)) =
+          subst (λ (l : List Told). Holds m b p (entries m s l) (run w (x .calls))) (told-calls (x .calls) w) (run-holds m b p o (x .calls) s w h) in
+      let rest = stretches-hold xs (entries m s (tells (x .calls))) (clearStep (run w (x .calls)) (x .buffer) .world) (clear-holds _ _ ran (x .buffer)) in
+      subst (λ (l : List ℕ). Holds m b p l (runClears w (x ∷ xs)))
+      (sym (ap (entries m s) (map-append _ (x .calls) (callsOf xs)) ∙ entries-append m (tells (x .calls)) (tells (callsOf xs)) s)) rest
+
+pub cleared-lists : ClearedLists
+cleared-lists m b p e xs behind =
+    let o = opened m b p e in
+    holds-owes m b p o (ledgerAfter m b p (callsOf xs)) (runClears (start m b p) xs)
+    (subst (λ (l : List Told). Holds m b p (ledger m l) (runClears (start m b p) xs)) (sym (told-calls (callsOf xs) (start m b p)))
+    (stretches-hold m b p o xs (resetImage m) (start m b p) (start-holds m b p o)))
+    behind

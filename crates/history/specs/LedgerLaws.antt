@@ -101,9 +101,9 @@ entries-image : (m : ℕ) (xs : List Told) (s : List ℕ) → Image m s → Imag
 entries-image m [] s i = i
 entries-image m (x ∷ xs) s i = entries-image m xs (entered m s x) (entry-image m s i (x .request) (x .lent))
 
-pub entries-last : (m : ℕ) (xs : List Told) (x : Told) (s : List ℕ) → entries m s (xs ++ (x ∷ [])) ≡ entered m (entries m s xs) x
-entries-last m [] x s = refl
-entries-last m (y ∷ xs) x s = entries-last m xs x (entered m s y)
+pub entries-append : (m : ℕ) (xs ys : List Told) (s : List ℕ) → entries m s (xs ++ ys) ≡ entries m (entries m s xs) ys
+entries-append m [] ys s = refl
+entries-append m (x ∷ xs) ys s = entries-append m xs ys (entered m s x)
 
 -- ---- the ledger as a value of the program
 
@@ -121,4 +121,4 @@ unfolding enteredOf
 ledger-entered m h xs x =
     ap (λ (s : List ℕ). record { member = m; bytes = s })
     (ap (λ (b : Bool). cond b (entered m (ledger m xs) x) (ledger m xs)) (ok-image m (ledger m xs) (entries-image m xs (resetImage m) (reset-image m h)))
-    ∙ sym (entries-last m xs x (resetImage m)))
+    ∙ sym (entries-append m xs (x ∷ []) (resetImage m)))

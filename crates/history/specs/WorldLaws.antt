@@ -40,7 +40,7 @@ use Rattle.chip.specs.ChipLaws.{reset-registers}
 use Rattle.chip.specs.FeedLaws.{hearAll, hear-all-registers, feed-encoded, feed-reset, power-lost-is}
 use Rattle.history.specs.declared.World.{World}
 use Rattle.history.specs.Ledger.{entry, Told, toldOf, entered, entries}
-use Rattle.history.specs.LedgerLaws.{setting-enters, entry-image, entries-last}
+use Rattle.history.specs.LedgerLaws.{setting-enters, entry-image, entries-append}
 use Rattle.history.specs.Step.{listIn, fedBy, sendStep, stepOf}
 use Rattle.history.specs.History.{Call, start, run, worldAfter, tell, told, ledgerAfter}
 use Rattle.history.specs.MachineLaws.{may-writable, writable-may, machine, hear-all-is, good-named}
@@ -111,7 +111,7 @@ module _ (m b p : ℕ) (o : opens m b p ≡ true) where
     pub is-so : soundOf host ≡ true
     is-so = is-sound host sound
 
-    chip-sound : Rattle.chip.specs.ChipLaws.Sound chip
+    pub chip-sound : Rattle.chip.specs.ChipLaws.Sound chip
     chip-sound = record { opened = o; registers = h .registers-fit }
 
     -- ---- a setting
@@ -147,7 +147,7 @@ module _ (m b p : ℕ) (o : opens m b p ≡ true) where
     stays : Holds m b p s world
     stays = subst (Holds m b p s) (h .is) h
 
-    sent-holds : (x : Sending) → Follows x → (buffer : List ℕ) → Holds m b p s (sendStep world x buffer .world)
+    pub sent-holds : (x : Sending) → Follows x → (buffer : List ℕ) → Holds m b p s (sendStep world x buffer .world)
     unfolding sendOf sendAnswer sendBuffer
     sent-holds x f buffer = rw (is-so) (go (leb (listSize (x .writes)) (length buffer)))
       where
@@ -281,4 +281,4 @@ told-last (x ∷ xs) c w = ap (λ (l : List Told). tell w x ∷ l) (told-last xs
 
 pub ledger-last : (m : ℕ) (s : List ℕ) (w : World) (calls : List Call) (c : Call) →
     entries m s (told w (calls ++ (c ∷ []))) ≡ entered m (entries m s (told w calls)) (tell (run w calls) c)
-ledger-last m s w calls c = ap (entries m s) (told-last calls c w) ∙ entries-last m (told w calls) (tell (run w calls) c) s
+ledger-last m s w calls c = ap (entries m s) (told-last calls c w) ∙ entries-append m (told w calls) (tell (run w calls) c ∷ []) s

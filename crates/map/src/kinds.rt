@@ -20,7 +20,7 @@ pub enum Kind {
     Open,
     // a short bit for each of eight sinks
     Short,
-    // clear opens, clear shorts, reset
+    // LOD_clear, LSD_clear, reset
     Command,
     // the current of a dot
     Current,
