@@ -74,7 +74,7 @@ either : (P : List ℕ → Type 0) (b : Bool) (x y : List ℕ) → P x → P y �
 either P true x y h k = h
 either P false x y h k = k
 
--- a byte keeps what a store and both clears keep
+-- a byte keeps what a store and both clear commands keep
 pub byte-keeps : (m : ℕ) (P : List ℕ → Type 0) (on : Bool) (a v : ℕ) (rs : List ℕ) → P (putByte m a v rs) → P (lodClear rs) → P (lsdClear rs) → P rs →
     P (hearByte m on a v rs)
 unfolding hearByte heardByte

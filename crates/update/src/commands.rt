@@ -26,7 +26,7 @@ const CLEAR_I2C: [u8; CLEAR_SIZE] = *b"\x01\x00\x04\x00\x04\x00\x80\xA7\x0F\x0F"
 
 const CLEAR_SPI: [u8; CLEAR_SIZE] = *b"\x01\x00\x04\x00\x04\x00\x29\xE0\x0F\x0F";
 
-// What a command whose list has `size` bytes is answered, where the buffer has `room`.
+// What a command whose list has `size` bytes, 8 and its data, is answered where the buffer has `room`.
 fn command_answer<'a>(
     header: Header,
     settings: &'a [u8],
@@ -34,7 +34,7 @@ fn command_answer<'a>(
     room: usize,
     size: usize,
 ) -> ListAnswer
-    requires { ⌜ 6 ≤ size ⌝ }
+    requires { ⌜ 8 ≤ size ⌝ }
     ensures { λ r. ⌜
         ((a : ℕ) (bytes new : List ℕ) → size ≡ listSize (commandWrite a bytes) →
         r ≡ sendAnswer (recordOf header (now (settings .entry)) (now (image .entry))) (command a bytes new) room)
