@@ -97,7 +97,7 @@ clears-commute rs =
     order false false s x = refl
 
 -- neither touches a byte outside 064h to 0A6h
-pub clear-outside : (rs : List ℕ) (k : ℕ) → (0x064 ≤ k → k ≤ 0x0A6 → ⊥) → (getD (lodClear rs) k 0 ≡ getD rs k 0) × (getD (lsdClear rs) k 0 ≡ getD rs k 0)
+clear-outside : (rs : List ℕ) (k : ℕ) → (0x064 ≤ k → k ≤ 0x0A6 → ⊥) → (getD (lodClear rs) k 0 ≡ getD rs k 0) × (getD (lsdClear rs) k 0 ≡ getD rs k 0)
 unfolding lodClear lsdClear
 clear-outside rs k out =
     let no : k ≡ 0x064 → ⊥ = λ e. out (omega arith) (omega arith) in

@@ -28,6 +28,7 @@ fn zero_from(registers: &mut [u8], from: usize, n: usize)
     }
 }
 
+// 0Fh at 0A7h, the data sheets' LOD_clear: the open bits.
 fn lod_clear(registers: &mut [u8])
     requires { ⌜ length (now registers) ≡ 908 ⌝ }
     ensures { λ _. ⌜ now (registers .exit) ≡ lodClear (now (registers .entry)) ⌝ }
@@ -37,6 +38,7 @@ fn lod_clear(registers: &mut [u8])
     zero_from(registers, 0x065, 33);
 }
 
+// 0Fh at 0A8h, LSD_clear: the short bits.
 fn lsd_clear(registers: &mut [u8])
     requires { ⌜ length (now registers) ≡ 908 ⌝ }
     ensures { λ _. ⌜ now (registers .exit) ≡ lsdClear (now (registers .entry)) ⌝ }

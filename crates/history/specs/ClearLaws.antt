@@ -100,7 +100,7 @@ module _ (m b p : ℕ) (o : opens m b p ≡ true) where
   stretches-hold [] s w h = h
   stretches-hold (x ∷ xs) s w h =
       let ran : Holds m b p (entries m s (tells (x .calls))) (run w (x .calls)) =
-          subst (λ (l : List Told). Holds m b p (entries m s l) (run w (x .calls))) (told-calls (x .calls) w) (run-holds m b p o (x .calls) s w h) in
+      subst (λ (l : List Told). Holds m b p (entries m s l) (run w (x .calls))) (told-calls (x .calls) w) (run-holds m b p o (x .calls) s w h) in
       let rest = stretches-hold xs (entries m s (tells (x .calls))) (clearStep (run w (x .calls)) (x .buffer) .world) (clear-holds _ _ ran (x .buffer)) in
       subst (λ (l : List ℕ). Holds m b p l (runClears w (x ∷ xs)))
       (sym (ap (entries m s) (map-append _ (x .calls) (callsOf xs)) ∙ entries-append m (tells (x .calls)) (tells (callsOf xs)) s)) rest
