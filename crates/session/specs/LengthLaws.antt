@@ -4,11 +4,11 @@
 -- Assumes nothing.
 use mathlib.Core.Path.{_≡_, refl, ap, subst}
 use mathlib.Core.Bool.{Bool, true, false, cond}
-use mathlib.Core.List.{List, [], _∷_, _++_}
-use Prim.Native.Nat.{ℕ, zero, suc, _+_, _≤_, _<_}
+use mathlib.Core.List.{List, [], _∷_}
+use Prim.Native.Nat.{ℕ, _≤_, _<_}
 use native.Mathlib.Omega.{arith}
 use lib.Dec.{leb}
-use lib.ListN.{length, getD, take, length-append, length-take}
+use lib.ListN.{length, take, length-append, length-take}
 use Rattle.map.specs.declared.refusals.Numbers as numbers
 use Rattle.map.specs.declared.refusals.Refusal.the-variants.{BufferShort, Unsound}
 use Rattle.map.specs.Refusals.{refusalNumber, numbersIn, numbersOf}
