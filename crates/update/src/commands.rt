@@ -4,7 +4,6 @@ ghost use mathlib.Core.Bool.{true, cond};
 ghost use mathlib.Core.List.{List};
 ghost use Prim.Native.Nat.{ℕ, _≤_};
 ghost use lib.ListN.{length};
-ghost use Rattle.map.specs.Images.{resetImage};
 ghost use Rattle.burst.specs.Burst.{encode};
 ghost use Rattle.host.specs.Record.{recordOf};
 ghost use Rattle.update.specs.Update.{isListed, listSize, over, sendAnswer, commandWrite, command, resetAnswer, resetBuffer, clearAnswer, clearBuffer};
@@ -108,16 +107,4 @@ pub fn clear_parts<'a>(
     let answer = command_answer(header, settings, image, buffer.len(), CLEAR_SIZE);
     put_string(answer, header, buffer, &CLEAR_I2C, &CLEAR_SPI);
     answer
-}
-
-// The reset values, into the image of a record by value whose Reset has this answer.
-pub(crate) fn put_own(answer: ListAnswer, header: Header, image: &mut [u8; 908])
-    requires { ⌜ length (now image) ≡ 908 ⌝ }
-    ensures { λ _. ⌜ now (image .exit) ≡ cond (isListed answer) (resetImage (header .member)) (now (image .entry)) ⌝ }
-{
-    match answer {
-        ListAnswer::Listed { n: _, t: _ } => images::put_reset(header.member as usize, image),
-        ListAnswer::Short { needed: _ } => {}
-        ListAnswer::Refused(_) => {}
-    }
 }

@@ -11,11 +11,14 @@ mod commands;
 mod lists;
 
 ghost use mathlib.Core.Path.{_≡_};
+ghost use mathlib.Core.Bool.{cond};
 ghost use lib.ListN.{length};
 ghost use Rattle.map.specs.Refusals.{numbersOf};
-ghost use Rattle.update.specs.Update.{updateOf, updateBuffer, chipResetOf, resetBuffer, clearOf, clearBuffer, listNumbers};
+ghost use Rattle.map.specs.Images.{resetImage};
+ghost use Rattle.update.specs.Update.{isListed, updateOf, updateBuffer, chipResetOf, resetBuffer, clearOf, clearBuffer, listNumbers};
 pub use commands::clear_parts;
 pub use commands::reset_parts;
+use host::Header;
 use host::Record;
 pub use lists::update_parts;
 use map::Numbers;
@@ -72,10 +75,22 @@ pub fn reset(mut r: Record, buffer: &mut [u8]) -> Updated
 {
     let header = r.header;
     let answer = reset_parts(header, &r.settings, &r.image, buffer);
-    commands::put_own(answer, header, &mut r.image);
+    put_own(answer, header, &mut r.image);
     Updated {
         answer: answer,
         host: r,
+    }
+}
+
+// The reset values, into the image of a record by value whose Reset has this answer.
+fn put_own(answer: ListAnswer, header: Header, image: &mut [u8; 908])
+    requires { ⌜ length (now image) ≡ 908 ⌝ }
+    ensures { λ _. ⌜ now (image .exit) ≡ cond (isListed answer) (resetImage (header .member)) (now (image .entry)) ⌝ }
+{
+    match answer {
+        ListAnswer::Listed { n: _, t: _ } => images::put_reset(header.member as usize, image),
+        ListAnswer::Short { needed: _ } => {}
+        ListAnswer::Refused(_) => {}
     }
 }
 

@@ -1,9 +1,9 @@
--- `update::commands::put_own` meets its contract.
+-- `update::put_own` meets its contract.
 -- Assumes nothing.
 use Rattle.update.proofs.Fixed.{reset-own}
 use borrow.Author.Needs.{needs}
-use Rattle.update.proofs.commands.put_own.Statement.{statement}
-use Rattle.update.proofs.commands.put_own.Tie as tie
+use Rattle.update.proofs.put_own.Statement.{statement}
+use Rattle.update.proofs.put_own.Tie as tie
 
 enum-told : tie.Need-enum-told
 enum-told c = search needs
