@@ -26,11 +26,12 @@ static void set_lamp(struct situation *s, uint32_t dot, uint32_t level)
     must(lp586x_lamp(s->record, sizeof s->record, dot / 18, dot % 18, level));
 }
 
-static void light_all(struct situation *s)
+/* Each lamp has a level of its own, from one level up. */
+static void light_all(struct situation *s, uint32_t level)
 {
     for (uint32_t dot = 0; dot < LP586X_DOTS; dot++)
         if (has_dot(s->member, dot))
-            set_lamp(s, dot, 0x2040 + dot);
+            set_lamp(s, dot, level + dot);
 }
 
 static void update(struct situation *s)
@@ -115,6 +116,14 @@ static void fill_faults(struct situation *s)
     s->faults[40] = 0x02;
 }
 
+/* The chip looks for faults from level 6,400 up. */
+static void fill_faults_dim(struct situation *s)
+{
+    light_all(s, 0x1040);
+    update(s);
+    fill_faults(s);
+}
+
 void prepare_case(const struct bench_case *measured, struct situation *s, uint32_t member)
 {
     memset(s, 0, sizeof *s);
@@ -122,7 +131,7 @@ void prepare_case(const struct bench_case *measured, struct situation *s, uint32
     must(lp586x_open(s->record, sizeof s->record, member, member == 3, 0));
     must(lp586x_chip_at_reset(s->chip, sizeof s->chip, member, member == 3, 0));
     must(lp586x_register(s->record, sizeof s->record, 0x000, 0x01));
-    light_all(s);
+    light_all(s, 0x2040);
     update(s);
     measured->prepare(s);
 }
@@ -206,7 +215,7 @@ static uint32_t call_walk(const struct interface *calls, struct situation *s)
 
 static uint32_t call_faults(const struct interface *calls, struct situation *s)
 {
-    return calls->faults(s->member, s->faults, sizeof s->faults, s->result, sizeof s->result, &s->n, &s->t);
+    return calls->faults(s->record, sizeof s->record, s->faults, sizeof s->faults, s->result, sizeof s->result, &s->n, &s->t);
 }
 
 const struct bench_case cases[] = {
@@ -226,6 +235,7 @@ const struct bench_case cases[] = {
     {"Transactions of a list of one lamp", list_one_lamp, call_walk},
     {"Transactions of the list of the full update", list_all_registers, call_walk},
     {"Faults", fill_faults, call_faults},
+    {"Faults, every lamp dim", fill_faults_dim, call_faults},
     {"Chip at reset", as_it_is, call_chip_at_reset},
     {"Chip's power lost", as_it_is, call_chip_power_lost},
     {"Feed, list of one lamp", list_one_lamp, call_feed},

@@ -17,7 +17,8 @@
  *
  * Threads: a call uses the memory that it is lent and its own stack, and nothing else. The last line of its comment says which memory it
  * changes, which it only reads, and that none of these pointers may be null. Calls may run at the same time, in interrupts too, unless one
- * of them changes what another one is lent: on one record one call at a time, on different records side by side.
+ * of them changes what another one is lent: on one record one call at a time, on different records side by side. lp586x_clear and
+ * lp586x_faults only read the record, so that any number of these two may run side by side on one.
  *
  * Targets: x86-64 with the System V calling convention; the toolchain writes code for no other. A port needs a back end of Rattle for its
  * target and a size_t of 64 bits, which the promises take for granted. Byte order is no matter: numbers are taken apart byte by byte.
@@ -37,8 +38,8 @@
 extern "C" {
 #endif
 
-#define LP586X_VERSION "2.0.0"
-#define LP586X_VERSION_MAJOR 2
+#define LP586X_VERSION "3.0.0"
+#define LP586X_VERSION_MAJOR 3
 #define LP586X_VERSION_MINOR 0
 #define LP586X_VERSION_PATCH 0
 
@@ -143,8 +144,7 @@ uint32_t lp586x_update(uint8_t *record, size_t record_size, uint8_t *buffer, siz
  * Changes record, buffer, n and t, none null. */
 uint32_t lp586x_reset(uint8_t *record, size_t record_size, uint8_t *buffer, size_t buffer_size, uint32_t *n, uint32_t *t);
 
-/* The open bits and the short bits of the chip to 0, by one write; such calls may run side by side on one record. 0 stores n and t. 14, 10
- * (buffer under 10).
+/* The open bits and the short bits of the chip to 0, by one write. 0 stores n and t. 14, 10 (buffer under 10).
  * Reads record and changes buffer, n and t, none null. */
 uint32_t lp586x_clear(const uint8_t *record, size_t record_size, uint8_t *buffer, size_t buffer_size, uint32_t *n, uint32_t *t);
 
@@ -155,11 +155,14 @@ uint32_t lp586x_transaction(const uint8_t *list, size_t list_size, uint32_t inde
 
 /* ---- Lamp faults */
 
-/* The 67 bytes 064h to 0A6h as read from the chip: the first 198 bytes of the result become, by dot number, 0 sound, 1 open, 2 short,
- * 3 both, 4 no such dot. opens_agree is 1 if bit 1 of 064h says whether a dot is open, shorts_agree if bit 0 does for short, else 0.
- * 1, 13, 10 (result under 198).
- * Reads bytes, changes result, opens_agree and shorts_agree, none null. No record is used. */
-uint32_t lp586x_faults(uint32_t member, const uint8_t *bytes, size_t bytes_size, uint8_t *result, size_t result_size, uint32_t *opens_agree, uint32_t *shorts_agree);
+/* The 67 bytes 064h to 0A6h as read from the record's chip: the first 198 bytes of the result become, by dot number, 0 sound, 1 open,
+ * 2 short, 3 both, 4 no such dot, 5 untested. Untested is a lamp with both bits clear whose level in the chip image is below 25, or below
+ * 6,400 at data mode 2 or 3 of the chip image: the chip looks for faults from there up only. Settings that no update has sent are no matter,
+ * so call this before the update that follows the read. opens_agree is 1 if bit 1 of 064h says whether a dot is open, shorts_agree if
+ * bit 0 does for short, else 0. 14, 13, 10 (result under 198).
+ * Reads record and bytes, changes result, opens_agree and shorts_agree, none null. */
+uint32_t lp586x_faults(const uint8_t *record, size_t record_size, const uint8_t *bytes, size_t bytes_size, uint8_t *result,
+                       size_t result_size, uint32_t *opens_agree, uint32_t *shorts_agree);
 
 /* ---- The chip model, for tests */
 

@@ -19,6 +19,7 @@
 #include "world.h"
 
 enum { CALLS = 500000, CALLS_IN_A_HISTORY = 600, MEMBERS = 5, KINDS = TRANSACTION + 1, ANSWERS = 32, LIST_ROOM = 65536 };
+enum { FAULT_ROOM = LP586X_FAULT_BYTES + 8, WIDTHS = 2, LAST_READING = 5 };
 
 struct history {
     uint32_t member, bus, pins;
@@ -29,6 +30,7 @@ struct history {
 };
 
 static unsigned long seen[KINDS][ANSWERS];
+static unsigned long readings_seen[WIDTHS][256];
 static unsigned long ledger_compared;
 
 static uint32_t note_answer(enum kind kind, uint32_t answer)
@@ -77,10 +79,13 @@ static int wide(const struct history *history)
     return history->ledger.bytes[0x001] >> 2 & 1;
 }
 
+/* Some are one below the level from which the chip looks for faults, or that level. */
 static uint32_t some_level(const struct history *history)
 {
     if (one_in(24))
         return one_in(2) ? any_number() : 250 + random_below(12);
+    if (one_in(8))
+        return (wide(history) ? 6400 : 25) - random_below(2);
     return one_in(3) ? random_below(4) : random_below(wide(history) ? 65536 : 256);
 }
 
@@ -135,6 +140,17 @@ static size_t some_scene(struct history *history, uint8_t *scene)
     if (one_in(16))
         size = random_below((uint32_t)size + 5);
     return size;
+}
+
+/* Fault bytes with bits set everywhere, here and there or nowhere, and mostly as many as there are. */
+static size_t some_fault_bytes(uint8_t *bytes)
+{
+    static const uint32_t rates[] = {1, 30, 1000};
+    uint32_t times = rates[random_below(3)];
+
+    for (size_t i = 0; i < FAULT_ROOM; i++)
+        bytes[i] = one_in(times) ? (uint8_t)random_bits() : 0;
+    return one_in(8) ? random_below(FAULT_ROOM + 1) : LP586X_FAULT_BYTES;
 }
 
 static size_t some_buffer_size(void)
@@ -341,20 +357,6 @@ static void lose_power(struct history *history)
 
 /* ---- Calls beside the history */
 
-static void read_faults(const struct history *history)
-{
-    uint8_t bytes[LP586X_FAULT_BYTES + 8];
-    uint32_t member = one_in(8) ? any_number() : history->member;
-    size_t size = one_in(8) ? random_below(sizeof bytes + 1) : LP586X_FAULT_BYTES;
-    size_t result_size = one_in(8) ? random_below(220) : LP586X_DOTS + random_below(20);
-    struct call call = faults_call(member, bytes, size, result_size);
-    int sparse = one_in(2);
-
-    for (size_t i = 0; i < sizeof bytes; i++)
-        bytes[i] = sparse && !one_in(30) ? 0 : (uint8_t)random_bits();
-    note_answer(FAULTS, both(&call).answer);
-}
-
 static void feed_anything(struct history *history)
 {
     static uint8_t list[LIST_ROOM];
@@ -390,6 +392,21 @@ static void damage(uint8_t *state, size_t *size)
         *size = one_in(2) ? *size + 1 - 2 * random_below(2) : random_below(2000);
 }
 
+/* The bytes that a call is lent to be read, if any. */
+static size_t some_input(struct history *history, enum kind kind, uint8_t *input)
+{
+    switch (kind) {
+    case SCENE:
+        return some_scene(history, input);
+    case FEED:
+        return some_list(&history->wild, input);
+    case FAULTS:
+        return some_fault_bytes(input);
+    default:
+        return 0;
+    }
+}
+
 /* Any call that is lent a record or a chip, on a damaged copy, with arguments that are mostly right. */
 static void call_on_damaged(struct history *history)
 {
@@ -397,8 +414,6 @@ static void call_on_damaged(struct history *history)
     struct call call = {.kind = (enum kind)random_below(TRANSACTION), .state = state, .input = input};
     int on_chip = call.kind > FAULTS;
 
-    if (call.kind == FAULTS)
-        return;
     memset(state, 0, sizeof state);
     memcpy(state, on_chip ? history->wild.chip : history->world.record, on_chip ? LP586X_CHIP_SIZE : LP586X_RECORD_SIZE);
     call.state_size = on_chip ? LP586X_CHIP_SIZE : LP586X_RECORD_SIZE;
@@ -415,7 +430,7 @@ static void call_on_damaged(struct history *history)
         some_dot(history, &call.numbers[0], &call.numbers[1]);
         call.numbers[2] = random_below(5);
     }
-    call.input_size = call.kind == SCENE ? some_scene(history, input) : call.kind == FEED ? some_list(&history->wild, input) : 0;
+    call.input_size = some_input(history, call.kind, input);
     note_answer(call.kind, both(&call).answer);
 }
 
@@ -430,16 +445,41 @@ static void scatter(uint32_t member, uint8_t *image, uint32_t times)
         }
 }
 
+/* Any images in a sound record. */
+static void scatter_both(uint8_t *record)
+{
+    static const uint32_t rates[] = {200, 20, 5, 2, 1};
+
+    scatter(record[0], record + IMAGE, rates[random_below(5)]);
+    scatter(record[0], record + SETTINGS, rates[random_below(5)]);
+}
+
+/* On the history's record, or on one with any images. */
+static void read_faults(const struct history *history)
+{
+    struct world world = history->world;
+    uint8_t bytes[FAULT_ROOM];
+    size_t size = some_fault_bytes(bytes), result_size = one_in(8) ? random_below(220) : LP586X_DOTS + random_below(20);
+    struct call call = faults_call(&world, bytes, size, result_size);
+    struct outcome outcome;
+
+    if (one_in(4))
+        scatter_both(world.record);
+    outcome = both(&call);
+    if (note_answer(FAULTS, outcome.answer) != 0)
+        return;
+    for (uint32_t dot = 0; dot < LP586X_DOTS; dot++)
+        readings_seen[world.record[IMAGE + 0x001] >> 2 & 1][outcome.buffer[dot]]++;
+}
+
 /* An update of a sound record whose two images are any images, fed to a chip that holds the second. */
 static void update_any_images(const struct history *history)
 {
-    static const uint32_t rates[] = {200, 20, 5, 2, 1};
     struct history other = *history;
     uint8_t before[LP586X_RECORD_SIZE];
     struct outcome outcome;
 
-    scatter(other.member, other.world.record + IMAGE, rates[random_below(5)]);
-    scatter(other.member, other.world.record + SETTINGS, rates[random_below(5)]);
+    scatter_both(other.world.record);
     memcpy(other.world.chip + CHIP_REGISTERS, other.world.record + IMAGE, LP586X_REGISTERS);
     memcpy(before, other.world.record, sizeof before);
     outcome = world_list(&other.world, UPDATE, LP586X_UPDATE_SIZE);
@@ -525,14 +565,14 @@ static const uint8_t refusals[KINDS][5] = {
     [UPDATE] = {14, 10},
     [RESET] = {14, 10},
     [CLEAR] = {14, 10},
-    [FAULTS] = {1, 13, 10},
+    [FAULTS] = {14, 13, 10},
     [CHIP_AT_RESET] = {14, 1, 2, 3},
     [CHIP_POWER_LOST] = {14},
     [FEED] = {14, 11},
     [TRANSACTION] = {11, 26},
 };
 
-/* Each was given, and each call was accepted, and nothing else was answered. */
+/* Each was given, and each call was accepted, and nothing else was answered. Faults gave each reading in both widths. */
 static void check_all_seen(void)
 {
     for (uint32_t kind = 0; kind < KINDS; kind++) {
@@ -548,6 +588,9 @@ static void check_all_seen(void)
         }
         check(others == 0, "call %u gave %lu other answers", kind, others);
     }
+    for (uint32_t width = 0; width < WIDTHS; width++)
+        for (uint32_t reading = 0; reading <= LAST_READING; reading++)
+            check(readings_seen[width][reading] > 0, "no dot of %u bits read %u", 8 + 8 * width, reading);
 }
 
 void group_histories(uint64_t seed)

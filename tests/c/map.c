@@ -52,13 +52,16 @@ static void flip_each_bit(struct call call, uint32_t member, size_t registers, i
 
 void group_soundness(void)
 {
-    static const uint8_t nothing[4];
+    static const uint8_t nothing[LP586X_FAULT_BYTES];
 
     group("soundness, bit by bit");
     for (uint32_t member = 0; member < MEMBERS; member++) {
         struct world world;
+        struct call faults = faults_call(&world, nothing, sizeof nothing, LP586X_DOTS);
 
         world_open(&world, member, 0, 0);
+        flip_each_bit(faults, member, SETTINGS, 0);
+        flip_each_bit(faults, member, IMAGE, 0);
         flip_each_bit(record_call(&world, GROUP, 0, 0, 0), member, SETTINGS, 0);
         flip_each_bit(record_call(&world, POWER_LOST, 0, 0, 0), member, IMAGE, 0);
         flip_each_bit(feed_call(&world, nothing, 4), member, CHIP_REGISTERS, 1);
@@ -105,7 +108,7 @@ void group_dots(void)
 
         world_open(&world, member, 0, 0);
         for (uint32_t mode = 0; mode < 4; mode++) {
-            check(world_set(&world, REGISTER, 0x001, 0x58 | mode << 1, 0) == 0, "data mode %u", mode);
+            world_mode(&world, mode);
             if (mode == 2)
                 groups_of_three(&world);
             each_dot(&world);

@@ -258,9 +258,9 @@ uint32_t reference_register(uint8_t *bytes, size_t size, uint32_t address, uint3
 }
 
 /* Data mode 2 or 3 holds 16 bits. */
-static int wide(const uint8_t *settings)
+static int wide(const uint8_t *registers)
 {
-    return (settings[DEVICE_INITIAL] >> 1 & 3) >= 2;
+    return (registers[DEVICE_INITIAL] >> 1 & 3) >= 2;
 }
 
 static uint32_t highest_level(const uint8_t *settings)
@@ -667,14 +667,28 @@ uint32_t reference_chip_feed(uint8_t *bytes, size_t size, const uint8_t *list, s
 
 /* ---- Lamp faults */
 
-uint32_t reference_faults(uint32_t member, const uint8_t *bytes, size_t bytes_size, uint8_t *result, size_t result_size,
-                          uint32_t *opens_agree, uint32_t *shorts_agree)
+/* "only performed when PWM >= 25 (Mode 1 and Mode 2) or PWM >= 6400 (Mode 3)", of opens and of shorts */
+enum { TESTED_FROM_8_BITS = 25, TESTED_FROM_16_BITS = 6400 };
+
+/* Readings: opens in bit 0, shorts in bit 1, or one of these. */
+enum { ABSENT = 4, UNTESTED = 5 };
+
+static int tested(const uint8_t *image, uint32_t dot)
 {
+    if (wide(image))
+        return get_two(image + PWM + 2 * dot) >= TESTED_FROM_16_BITS;
+    return image[PWM + dot] >= TESTED_FROM_8_BITS;
+}
+
+uint32_t reference_faults(const uint8_t *record_bytes, size_t record_size, const uint8_t *bytes, size_t bytes_size,
+                          uint8_t *result, size_t result_size, uint32_t *opens_agree, uint32_t *shorts_agree)
+{
+    const struct record *record = (const struct record *)record_bytes;
     const uint8_t *opens, *shorts;
     uint8_t seen = 0;
 
-    if (member >= MEMBERS)
-        return BAD_MEMBER;
+    if (!record_sound(record_bytes, record_size))
+        return UNSOUND;
     if (bytes_size != LP586X_FAULT_BYTES)
         return FAULT_BYTES;
     if (result_size < LP586X_DOTS)
@@ -683,14 +697,14 @@ uint32_t reference_faults(uint32_t member, const uint8_t *bytes, size_t bytes_si
     shorts = bytes + (SHORTS - FAULT_STATE);
     for (uint32_t line = 0; line < LINES; line++) {
         for (uint32_t sink = 0; sink < SINKS; sink++) {
-            uint32_t byte = 3 * line + sink / 8, bit = sink % 8;
+            uint32_t dot = dot_number(line, sink), byte = 3 * line + sink / 8, bit = sink % 8;
             uint8_t reading = (uint8_t)((opens[byte] >> bit & 1) | (shorts[byte] >> bit & 1) << 1);
 
-            if (!dot_exists(&members[member], line, sink)) {
-                result[dot_number(line, sink)] = 4;
+            if (!dot_exists(&members[record->member], line, sink)) {
+                result[dot] = ABSENT;
                 continue;
             }
-            result[dot_number(line, sink)] = reading;
+            result[dot] = reading == 0 && !tested(record->image, dot) ? UNTESTED : reading;
             seen |= reading;
         }
     }

@@ -1,5 +1,5 @@
-/* Document 01 in plain C, written from the paper and the data sheets alone. The tests compare the library with it after every call, and
- * the speed comparison takes it as the plain C driver.
+/* Document 01 in plain C, as document 02 has changed it so far, written from the papers and the data sheets alone. The tests
+ * compare the library with it after every call, and the speed comparison takes it as the plain C driver.
  *
  * Each call has the arguments and the answers of its namesake in include/lp586x.h. The record and the chip are changed in place.
  */
@@ -24,8 +24,8 @@ uint32_t reference_update(uint8_t *record, size_t record_size, uint8_t *buffer, 
 uint32_t reference_reset(uint8_t *record, size_t record_size, uint8_t *buffer, size_t buffer_size, uint32_t *n, uint32_t *t);
 uint32_t reference_clear(const uint8_t *record, size_t record_size, uint8_t *buffer, size_t buffer_size, uint32_t *n, uint32_t *t);
 uint32_t reference_transaction(const uint8_t *list, size_t list_size, uint32_t index, uint32_t *offset, uint32_t *length);
-uint32_t reference_faults(uint32_t member, const uint8_t *bytes, size_t bytes_size, uint8_t *result, size_t result_size,
-                          uint32_t *opens_agree, uint32_t *shorts_agree);
+uint32_t reference_faults(const uint8_t *record, size_t record_size, const uint8_t *bytes, size_t bytes_size, uint8_t *result,
+                          size_t result_size, uint32_t *opens_agree, uint32_t *shorts_agree);
 uint32_t reference_chip_at_reset(uint8_t *chip, size_t chip_size, uint32_t member, uint32_t bus, uint32_t pins);
 uint32_t reference_chip_power_lost(uint8_t *chip, size_t chip_size);
 uint32_t reference_chip_feed(uint8_t *chip, size_t chip_size, const uint8_t *list, size_t list_size);

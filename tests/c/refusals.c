@@ -1,4 +1,4 @@
-/* Every refusal of every call, in the order of document 01: an input that breaks two conditions gets the earlier number. */
+/* Every refusal of every call, in the order of the papers: an input that breaks two conditions gets the earlier number. */
 #include <string.h>
 
 #include "check.h"
@@ -15,15 +15,21 @@ static struct outcome expect(uint32_t number, struct call call)
     return outcome;
 }
 
-/* A record or chip that is not sound: the first byte says a member that does not exist. */
-static struct call unsound(struct call call)
+/* A copy of the record or the chip with another byte at one place. */
+static struct call with_byte(struct call call, size_t at, uint8_t byte)
 {
     static uint8_t state[LP586X_RECORD_SIZE];
 
     memcpy(state, call.state, call.state_size);
-    state[0] = 5;
+    state[at] = byte;
     call.state = state;
     return call;
+}
+
+/* A record or chip that is not sound: the first byte says a member that does not exist. */
+static struct call unsound(struct call call)
+{
+    return with_byte(call, 0, 5);
 }
 
 static struct call sized(struct call call, size_t size)
@@ -183,23 +189,46 @@ static void lists(const struct world *world)
     check(outcome.needed == OUT_UNTOUCHED && outcome.n == 1 && outcome.t == 4, "n is %u, t is %u", outcome.n, outcome.t);
 }
 
-/* Faults: 1, 13, 10. */
-static void faults(void)
+/* A record that is not sound, by one byte or by its size: 14, and not 1 where its member is none. Pins 3. */
+static void faults_of_unsound(struct call call)
+{
+    static const struct {
+        size_t at;
+        uint8_t byte;
+    } changes[] = {
+        {0, 5}, {0, 255}, {1, 2}, {1, 255}, {1, LP586X_SPI}, {2, 4}, {2, 255},
+        {SETTINGS + 0x000, 0x02}, {SETTINGS + 0x064, 0x01}, {SETTINGS + 0x0A9, 0xFF}, {SETTINGS + 0x1FF, 0x80},
+        {IMAGE + 0x000, 0x02}, {IMAGE + 0x064, 0x01}, {IMAGE + 0x0A9, 0xFF}, {IMAGE + 0x1FF, 0x80},
+    };
+    static const size_t sizes[] = {0, 1, 3, LP586X_CHIP_SIZE, LP586X_RECORD_SIZE - 1, LP586X_RECORD_SIZE + 1,
+                                   LP586X_RECORD_SIZE + 256, LP586X_RECORD_SIZE + 65536};
+
+    for (size_t i = 0; i < sizeof changes / sizeof *changes; i++)
+        expect(LP586X_UNSOUND, with_byte(call, changes[i].at, changes[i].byte));
+    for (size_t i = 0; i < sizeof sizes / sizeof *sizes; i++)
+        expect(LP586X_UNSOUND, sized(call, sizes[i]));
+}
+
+/* Faults: 14, 13, 10. */
+static void faults(uint32_t member)
 {
     static const uint8_t bytes[1 << 17];
+    struct world world;
 
-    expect(LP586X_NO_MEMBER, faults_call(5, bytes, 66, 197));
-    expect(LP586X_NO_MEMBER, faults_call(256, bytes, 67, 198));
-    expect(LP586X_NO_MEMBER, faults_call(HUGE_NUMBER, bytes, 0, 0));
-    expect(LP586X_FAULT_LENGTH, faults_call(0, bytes, 66, 197));
-    expect(LP586X_FAULT_LENGTH, faults_call(0, bytes, 68, 197));
-    expect(LP586X_FAULT_LENGTH, faults_call(4, bytes, 0, 0));
-    expect(LP586X_FAULT_LENGTH, faults_call(4, bytes, 67 + 65536, 198));
-    expect(LP586X_FAULT_LENGTH, faults_call(4, bytes, 67 + 256, 198));
-    expect(LP586X_BUFFER_SHORT, faults_call(0, bytes, 67, 197));
-    expect(LP586X_BUFFER_SHORT, faults_call(0, bytes, 67, 0));
-    expect(LP586X_OK, faults_call(0, bytes, 67, 198));
-    expect(LP586X_OK, faults_call(0, bytes, 67, 65536 + 197));
+    world_open(&world, member, LP586X_I2C, 3);
+    faults_of_unsound(faults_call(&world, bytes, 67, 198));
+    faults_of_unsound(faults_call(&world, bytes, 67, 197));
+    faults_of_unsound(faults_call(&world, bytes, 66, 198));
+    faults_of_unsound(faults_call(&world, bytes, 0, 0));
+    expect(LP586X_FAULT_LENGTH, faults_call(&world, bytes, 66, 197));
+    expect(LP586X_FAULT_LENGTH, faults_call(&world, bytes, 68, 197));
+    expect(LP586X_FAULT_LENGTH, faults_call(&world, bytes, 0, 0));
+    expect(LP586X_FAULT_LENGTH, faults_call(&world, bytes, 67 + 65536, 198));
+    expect(LP586X_FAULT_LENGTH, faults_call(&world, bytes, 67 + 256, 198));
+    expect(LP586X_BUFFER_SHORT, faults_call(&world, bytes, 67, 197));
+    expect(LP586X_BUFFER_SHORT, faults_call(&world, bytes, 67, 0));
+    expect(LP586X_OK, faults_call(&world, bytes, 67, 198));
+    expect(LP586X_OK, faults_call(&world, bytes, 67, 65536 + 197));
 }
 
 /* Feed: 14, 11. */
@@ -275,6 +304,7 @@ void group_refusals(void)
         feeds(&world);
         feeds_by_n(&world);
         feeds_by_sum(&world);
+        faults(member);
     }
     world_open(&world, LP586X_LP5860, LP586X_I2C, 0);
     world_set(&world, REGISTER, 0x000, 0x01, 0);
@@ -282,6 +312,5 @@ void group_refusals(void)
     dots(&world, LAMP, 255, LP586X_LEVEL_TOO_HIGH);
     scenes(&world);
     lists(&world);
-    faults();
     group_done("");
 }

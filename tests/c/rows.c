@@ -22,7 +22,7 @@ struct row {
 
 enum { TYPE, DEFAULT, RESERVED, CARRIES, FIRST_DOT };
 
-static struct world worlds[MEMBERS];
+static struct world worlds[MEMBERS], lit[MEMBERS];
 static unsigned rows_read, dots_not_there, listed_not_writable;
 
 static void read_row(struct row *row, char *line)
@@ -69,7 +69,7 @@ static struct world in_mode(const struct row *row, uint32_t mode)
 {
     struct world world = worlds[row->member];
 
-    check(world_set(&world, REGISTER, 0x001, 0x58 | mode << 1, 0) == 0, "data mode %u is refused", mode);
+    world_mode(&world, mode);
     return world;
 }
 
@@ -110,7 +110,7 @@ static void check_settings_bits(const struct row *row)
     }
 }
 
-/* The bit set alone, and no other reading than its dot's. */
+/* The bit set alone, and no other reading than its dot's: at full level the lamps with clear bits are sound. */
 static void check_fault_bits(const struct row *row)
 {
     uint8_t reading = strcmp(row->words[CARRIES], "open") == 0 ? 1 : 2;
@@ -118,7 +118,7 @@ static void check_fault_bits(const struct row *row)
 
     for (uint32_t bit = 0; bit < 8; bit++) {
         uint8_t bytes[LP586X_FAULT_BYTES] = {0};
-        struct call call = faults_call(row->member, bytes, sizeof bytes, LP586X_DOTS);
+        struct call call = faults_call(&lit[row->member], bytes, sizeof bytes, LP586X_DOTS);
         struct outcome outcome;
 
         bytes[row->address - 0x064] = (uint8_t)(1 << bit);
@@ -203,8 +203,10 @@ void group_rows(const char *path)
         perror(path);
         exit(1);
     }
-    for (uint32_t member = 0; member < MEMBERS; member++)
+    for (uint32_t member = 0; member < MEMBERS; member++) {
         world_open(&worlds[member], member, 0, 0);
+        world_lit(&lit[member], member, 3, 65535);
+    }
     while (fgets(line, sizeof line, file)) {
         read_row(&row, line);
         rows_read++;

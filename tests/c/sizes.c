@@ -18,21 +18,19 @@ enum { SIZES = sizeof sizes / sizeof *sizes, LARGEST = 131072 + 1819 };
 static void wrong_state_sizes(const struct world *world)
 {
     static uint8_t state[LARGEST];
-    static const uint8_t nothing[4];
+    static const uint8_t nothing[LP586X_FAULT_BYTES];
 
     for (enum kind kind = OPEN; kind <= FEED; kind++) {
-        size_t right = kind < FAULTS ? LP586X_RECORD_SIZE : LP586X_CHIP_SIZE;
+        size_t right = kind <= FAULTS ? LP586X_RECORD_SIZE : LP586X_CHIP_SIZE;
 
-        if (kind == FAULTS)
-            continue;
         memset(state, 0, sizeof state);
-        memcpy(state, kind < FAULTS ? world->record : world->chip, right);
+        memcpy(state, kind <= FAULTS ? world->record : world->chip, right);
         for (int i = 0; i < SIZES; i++) {
             struct call call = {.kind = kind, .state = state, .state_size = sizes[i], .buffer_size = LP586X_UPDATE_SIZE};
             struct outcome outcome;
 
             call.input = nothing;
-            call.input_size = kind == FEED ? 4 : 2;
+            call.input_size = kind == FAULTS ? sizeof nothing : kind == FEED ? 4 : 2;
             outcome = both(&call);
             check(outcome.answer == (sizes[i] == right ? 0 : 14), "%s: answers %u", call_text(&call), outcome.answer);
         }
@@ -82,17 +80,17 @@ static void clear_buffers(const struct world *world)
     }
 }
 
-static void result_sizes(void)
+static void result_sizes(const struct world *world)
 {
     static const uint8_t bytes[LP586X_FAULT_BYTES + 70];
 
     for (size_t size = 0; size <= 300; size++) {
-        struct call call = faults_call(3, bytes, LP586X_FAULT_BYTES, size);
+        struct call call = faults_call(world, bytes, LP586X_FAULT_BYTES, size);
 
         check(both(&call).answer == (size < 198 ? 10 : 0), "%s", call_text(&call));
     }
     for (size_t size = 0; size <= sizeof bytes; size++) {
-        struct call call = faults_call(3, bytes, size, 198);
+        struct call call = faults_call(world, bytes, size, 198);
 
         check(both(&call).answer == (size != 67 ? 13 : 0), "%s", call_text(&call));
     }
@@ -103,7 +101,7 @@ static void sizes_beyond_32_bits(const struct world *world)
 {
     const size_t four_gib = (size_t)1 << 32;
     uint8_t *memory = mmap(NULL, four_gib + 4096, PROT_READ | PROT_WRITE, MAP_PRIVATE | MAP_ANONYMOUS | MAP_NORESERVE, -1, 0);
-    uint8_t record[LP586X_RECORD_SIZE], chip[LP586X_CHIP_SIZE], small[LP586X_DOTS] = {0};
+    uint8_t record[LP586X_RECORD_SIZE], chip[LP586X_CHIP_SIZE], small[LP586X_DOTS] = {0}, result[LP586X_DOTS];
     uint32_t n, t, needed;
 
     if (memory == MAP_FAILED) {
@@ -115,16 +113,18 @@ static void sizes_beyond_32_bits(const struct world *world)
     check(lp586x_reset(record, sizeof record, memory, four_gib, &n, &t) == 0, "reset, 2^32 bytes of buffer");
     check(lp586x_clear(record, sizeof record, memory, four_gib + 9, &n, &t) == 0, "clear, 2^32 + 9");
     check(lp586x_update(record, sizeof record, memory, four_gib, &n, &t, &needed) == 0, "update, 2^32");
-    check(lp586x_faults(0, small, 67, memory, four_gib + 197, &n, &t) == 0, "faults, a result of 2^32 + 197");
+    check(lp586x_faults(record, sizeof record, small, 67, memory, four_gib + 197, &n, &t) == 0, "faults, a result of 2^32 + 197");
 
     memset(memory, 0, 4096);
-    check(lp586x_faults(0, memory, four_gib + 67, small, 198, &n, &t) == 13, "faults, 2^32 + 67 bytes");
+    check(lp586x_faults(record, sizeof record, memory, four_gib + 67, result, 198, &n, &t) == 13, "faults, 2^32 + 67 bytes");
     check(lp586x_scene(record, sizeof record, memory, four_gib + 2) == 9, "scene, 2^32 + 2");
     check(lp586x_chip_feed(chip, sizeof chip, memory, four_gib + 4) == 11, "chip_feed, 2^32 + 4");
     check(lp586x_transaction(memory, four_gib + 4, 0, &n, &t) == 11, "transaction, 2^32 + 4");
     memcpy(memory, world->record, sizeof world->record);
     check(lp586x_power_lost(memory, four_gib + LP586X_RECORD_SIZE) == 14, "power_lost, a record of 2^32 + 1819");
     check(lp586x_open(memory, four_gib + LP586X_RECORD_SIZE, 0, 0, 0) == 14, "open, a record of 2^32 + 1819");
+    check(lp586x_faults(memory, four_gib + LP586X_RECORD_SIZE, small, 67, result, 198, &n, &t) == 14,
+          "faults, a record of 2^32 + 1819");
     memcpy(memory, world->chip, sizeof world->chip);
     check(lp586x_chip_feed(memory, four_gib + LP586X_CHIP_SIZE, small, 4) == 14, "chip_feed, a chip of 2^32 + 911");
     check(lp586x_chip_power_lost(memory, four_gib + LP586X_CHIP_SIZE) == 14, "chip_power_lost, a chip of 2^32 + 911");
@@ -143,7 +143,7 @@ void group_sizes(void)
     wrong_state_sizes(&world);
     buffer_sizes(&world);
     clear_buffers(&world);
-    result_sizes();
+    result_sizes(&world);
     sizes_beyond_32_bits(&world);
     group_done("");
 }

@@ -214,7 +214,7 @@ static void perform(struct side *side, const struct call *call)
     else if (call->kind <= CLEAR)
         side->answer = call_list(calls, call, state, buffer, n, t, needed);
     else if (call->kind == FAULTS)
-        side->answer = calls->faults(call->numbers[0], input, call->input_size, buffer, call->buffer_size, n, t);
+        side->answer = calls->faults(state, call->state_size, input, call->input_size, buffer, call->buffer_size, n, t);
     else if (call->kind == TRANSACTION)
         side->answer = calls->transaction(input, call->input_size, call->numbers[0], n, t);
     else
@@ -267,13 +267,13 @@ static void check_range(const struct call *call, int number)
     check(canaries_stand(ours) && canaries_stand(theirs), "%s: wrote outside %s", call_text(call), range_names[number]);
 }
 
-/* Clear leaves the record unchanged; scenes, lists and fault bytes are lent to be read. */
+/* Clear and Faults leave the record unchanged; scenes, lists and fault bytes are lent to be read. */
 static void check_only_read(const struct call *call)
 {
     const struct side *ours = &sides[0];
 
     check(memcmp(ours->ranges[INPUT].bytes, before[INPUT], call->input_size) == 0, "%s: changed its input", call_text(call));
-    if (call->kind == CLEAR)
+    if (call->kind == CLEAR || call->kind == FAULTS)
         check(memcmp(ours->ranges[STATE].bytes, before[STATE], call->state_size) == 0, "%s: changed the record",
               call_text(call));
 }

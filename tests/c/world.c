@@ -4,6 +4,7 @@
 
 #include "check.h"
 #include "random.h"
+#include "reference.h"
 
 struct call record_call(const struct world *world, enum kind kind, uint32_t first, uint32_t second, uint32_t third)
 {
@@ -19,13 +20,16 @@ struct call list_call_of(const struct world *world, enum kind kind, size_t buffe
     return call;
 }
 
+static struct call with_input(struct call call, const uint8_t *input, size_t input_size)
+{
+    call.input = input;
+    call.input_size = input_size;
+    return call;
+}
+
 struct call scene_call(const struct world *world, const uint8_t *scene, size_t scene_size)
 {
-    struct call call = record_call(world, SCENE, 0, 0, 0);
-
-    call.input = scene;
-    call.input_size = scene_size;
-    return call;
+    return with_input(record_call(world, SCENE, 0, 0, 0), scene, scene_size);
 }
 
 static struct call chip_call(const struct world *world, enum kind kind)
@@ -35,11 +39,7 @@ static struct call chip_call(const struct world *world, enum kind kind)
 
 struct call feed_call(const struct world *world, const uint8_t *list, size_t list_size)
 {
-    struct call call = chip_call(world, FEED);
-
-    call.input = list;
-    call.input_size = list_size;
-    return call;
+    return with_input(chip_call(world, FEED), list, list_size);
 }
 
 struct call transaction_call(const uint8_t *list, size_t list_size, uint32_t index)
@@ -47,10 +47,9 @@ struct call transaction_call(const uint8_t *list, size_t list_size, uint32_t ind
     return (struct call){.kind = TRANSACTION, .numbers = {index}, .input = list, .input_size = list_size};
 }
 
-struct call faults_call(uint32_t member, const uint8_t *bytes, size_t bytes_size, size_t result_size)
+struct call faults_call(const struct world *world, const uint8_t *bytes, size_t bytes_size, size_t result_size)
 {
-    return (struct call){
-        .kind = FAULTS, .numbers = {member}, .input = bytes, .input_size = bytes_size, .buffer_size = result_size};
+    return with_input(list_call_of(world, FAULTS, result_size), bytes, bytes_size);
 }
 
 static struct outcome keep_record(struct world *world, struct call call)
@@ -77,6 +76,27 @@ void world_open(struct world *world, uint32_t member, uint32_t bus, uint32_t pin
     check(world_set(world, OPEN, member, bus, pins) == 0, "open (%u, %u, %u) is refused", member, bus, pins);
     memcpy(chip.numbers, (uint32_t[3]){member, bus, pins}, sizeof chip.numbers);
     check(keep_chip(world, chip) == 0, "chip_at_reset (%u, %u, %u) is refused", member, bus, pins);
+}
+
+void world_mode(struct world *world, uint32_t mode)
+{
+    check(world_set(world, REGISTER, 0x001, 0x58 | mode << 1, 0) == 0, "data mode %u is refused", mode);
+}
+
+void world_lamps(struct world *world, uint32_t level)
+{
+    for (uint32_t dot = 0; dot < LP586X_DOTS; dot++)
+        if (reference_dot(world->record[0], dot / 18, dot % 18))
+            check(world_set(world, LAMP, dot / 18, dot % 18, level) == 0, "dot %u: level %u is refused", dot, level);
+}
+
+void world_lit(struct world *world, uint32_t member, uint32_t mode, uint32_t level)
+{
+    world_open(world, member, LP586X_I2C, 0);
+    check(world_set(world, REGISTER, 0x000, 0x01, 0) == 0, "chip enable is refused");
+    world_mode(world, mode);
+    world_lamps(world, level);
+    world_sync(world);
 }
 
 uint32_t world_set(struct world *world, enum kind kind, uint32_t first, uint32_t second, uint32_t third)

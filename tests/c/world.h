@@ -15,6 +15,13 @@ enum { SETTINGS = 3, IMAGE = 3 + LP586X_REGISTERS, CHIP_REGISTERS = 3 };
 /* Opens a record and gives the chip power; both must be accepted. */
 void world_open(struct world *world, uint32_t member, uint32_t bus, uint32_t pins);
 
+/* The data mode, or the level of every lamp, in the settings; each call must be accepted. */
+void world_mode(struct world *world, uint32_t mode);
+void world_lamps(struct world *world, uint32_t level);
+
+/* A record on I2C whose settings and chip have this data mode, and this level for every lamp. */
+void world_lit(struct world *world, uint32_t member, uint32_t mode, uint32_t level);
+
 /* OPEN to SWITCH and POWER_LOST, with the call's numbers. */
 uint32_t world_set(struct world *world, enum kind kind, uint32_t first, uint32_t second, uint32_t third);
 uint32_t world_scene(struct world *world, const uint8_t *scene, size_t scene_size);
@@ -37,6 +44,6 @@ struct call list_call_of(const struct world *world, enum kind kind, size_t buffe
 struct call scene_call(const struct world *world, const uint8_t *scene, size_t scene_size);
 struct call feed_call(const struct world *world, const uint8_t *list, size_t list_size);
 struct call transaction_call(const uint8_t *list, size_t list_size, uint32_t index);
-struct call faults_call(uint32_t member, const uint8_t *bytes, size_t bytes_size, size_t result_size);
+struct call faults_call(const struct world *world, const uint8_t *bytes, size_t bytes_size, size_t result_size);
 
 #endif

@@ -59,8 +59,15 @@ pub fn top_level(image: &[u8]) -> usize
 pub fn level(image: &[u8], number: u8) -> usize
     ensures { λ r. ⌜ (r ≡ levelOf (now (image .entry)) number) × (r < 65536) ⌝ }
 {
+    level_as(image, wide(image), number)
+}
+
+// The same for a caller that reads many levels and has asked for the data mode once.
+pub fn level_as(image: &[u8], wide: bool, number: u8) -> usize
+    ensures { λ r. ⌜ (wide ≡ wideOf (now (image .entry)) → (r ≡ levelOf (now (image .entry)) number) × (r < 65536)) ⌝ }
+{
     let dot = number as usize;
-    if !wide(image) {
+    if !wide {
         return byte_at(image, 0x200 + dot) as usize;
     }
     let low = byte_at(image, 0x200 + 2 * dot) as usize;

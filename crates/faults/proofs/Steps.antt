@@ -6,21 +6,25 @@ use mathlib.Core.List.{List}
 use Prim.Native.Nat.{ℕ, _+_, _-_, _*_, _/_, _%_, _^_, _<_, _≤_}
 use native.Mathlib.Nat.{zero-add, add-zero}
 use native.Mathlib.Numerals.{add-one}
-use native.Mathlib.Decide.{ℕ-discrete}
+use native.Mathlib.Decide.{ℕ-discrete, decLt}
 use native.Mathlib.Omega.{arith}
 use borrow.Author.Tests.{eq-eqb, ne-eqb, lt-ltb}
 use lib.Dec.{ltb, eqb}
 use lib.ListN.{length, getD, set, length-set}
+use lib.Seq.{ext-getD}
 use Rattle.map.specs.declared.dots.Field.{Field}
 use Rattle.map.specs.declared.dots.Field.the-variants.{Open, Short}
 use Rattle.map.specs.declared.refusals.Answer as checks
 use Rattle.map.specs.declared.refusals.Refusal.{Refusal}
 use Rattle.map.specs.Refusals.{refusalNumber, accepted}
 use Rattle.map.specs.Map.{linesOf, columnsOf, dotIn, numberIn, addressOf, shiftOf}
-use Rattle.map.specs.ListLaws.{filled-none, filled-more}
-use Rattle.faults.specs.Faults.{faultByte, bitSet, isSet, hasDot, lampReading, reading, readings, someBelow, isFaulty, someFaulty, opensAgree, shortsAgree, faultsChecked, answerNumbers, answered, faultsAnswer, faultsResult}
-use Rattle.faults.specs.FaultLaws.{Taken, faults-taken}
-use Rattle.faults.specs.ReadTo.{ReadTo}
+use Rattle.map.specs.Lists.{filled}
+use Rattle.map.specs.ListLaws.{filled-none, filled-more, filled-length, filled-in, filled-out}
+use Rattle.dots.specs.Dots.{wideOf, levelOf}
+use Rattle.host.specs.declared.Record.{Record}
+use Rattle.faults.specs.Faults.{faultByte, bitSet, isSet, leastOf, isDim, hasDot, lampReading, reading, readings, someBelow, isFaulty, someFaulty, opensAgree, shortsAgree, faultsChecked, answerNumbers, answered, faultsAnswer, faultsResult}
+use Rattle.faults.specs.FaultLaws.{Taken, faults-taken, filled-same}
+use Rattle.faults.specs.ReadTo.{bitsReading, ReadTo, unlessDim, testedAt}
 use Rattle.faults.specs.declared.Answer.{Answer}
 use Rattle.faults.specs.declared.Answer.the-variants.{Read, Refused}
 
@@ -50,12 +54,12 @@ faulty-bit f first m d bytes exists r ea eb ee er = er ∙ rw (ea, eb, sym ee) (
 
 reading-is : (m d : ℕ) (bytes : List ℕ) (exists : Bool) (opened shorted r : ℕ) → exists ≡ hasDot m d →
     opened ≡ cond (isFaulty Open m bytes d) 1 0 → shorted ≡ cond (isFaulty Short m bytes d) 1 0 →
-    r ≡ cond exists (opened + 2 * shorted) 4 → r ≡ reading m bytes d
-unfolding reading lampReading isFaulty
+    r ≡ cond exists (opened + 2 * shorted) 4 → r ≡ bitsReading m bytes d
+unfolding bitsReading lampReading isFaulty
 reading-is m d bytes exists opened shorted r ee eo es er =
     er ∙ rw (eo, es, sym ee) (go exists (isSet Open bytes d) (isSet Short bytes d))
   where
-    go : (b o s : Bool) → cond b (cond (b && o) 1 0 + 2 * cond (b && s) 1 0) 4 ≡ cond b (lampReading o s) 4
+    go : (b o s : Bool) → cond b (cond (b && o) 1 0 + 2 * cond (b && s) 1 0) 4 ≡ cond b (lampReading o s false) 4
     go true false false = refl
     go true true false = refl
     go true false true = refl
@@ -81,7 +85,7 @@ unfolding hasDot numberIn addressOf shiftOf
 read-more m lines columns d line sink bytes old result opens shorts exists opened shorted r h hl hs el ec ee eo es er so = record {
   within = omega arith;
   room = length-set result d r ∙ so .room;
-  stored = sym (filled-more (reading m bytes) 0 d old ∙ rw (zero-add d, sym (so .stored), sym value) refl);
+  stored = sym (filled-more (bitsReading m bytes) 0 d old ∙ rw (zero-add d, sym (so .stored), sym value) refl);
   opens-few = omega (arith, so .opens-few, eo .1);
   shorts-few = omega (arith, so .shorts-few, es .1);
   opens-some = some-more (isFaulty Open m bytes) d opens opened open-is (so .opens-some);
@@ -97,7 +101,7 @@ read-more m lines columns d line sink bytes old result opens shorts exists opene
     short-is : shorted ≡ cond (isFaulty Short m bytes d) 1 0
     short-is = faulty-bit Short 34 m d bytes exists shorted (omega arith) refl has (rw (hl, hs) at (es .0))
 
-    value : r ≡ reading m bytes d
+    value : r ≡ bitsReading m bytes d
     value = reading-is m d bytes exists opened shorted r has open-is short-is er
 
 -- where the buffer `given` and the counts before the line come from dots that are read, the line's first sinks are read too
@@ -153,7 +157,7 @@ unfolding someBelow
 read-none m bytes old = record {
   within = omega arith;
   room = refl;
-  stored = sym (filled-none (reading m bytes) 0 old);
+  stored = sym (filled-none (bitsReading m bytes) 0 old);
   opens-few = omega arith;
   shorts-few = omega arith;
   opens-some = refl;
@@ -168,11 +172,49 @@ next-line m bytes old result opens shorts line so = rw (next line) so
     next l = omega arith
 
 pub read-whole : (m : ℕ) (bytes old result : List ℕ) (opens shorts line : ℕ) → 11 ≤ line → ReadTo m bytes old result opens shorts (18 * line) →
-    (result ≡ readings m bytes old) × ((ltb 0 opens ≡ someFaulty Open m bytes) × (ltb 0 shorts ≡ someFaulty Short m bytes))
-unfolding readings someFaulty
+    (result ≡ filled (bitsReading m bytes) 0 198 old) × ((ltb 0 opens ≡ someFaulty Open m bytes) × (ltb 0 shorts ≡ someFaulty Short m bytes))
+unfolding someFaulty
 read-whole m bytes old result opens shorts line h so =
     let e : 18 * line ≡ 198 = omega (arith, so .within) in
     (rw e at (so .stored), (rw e at (so .opens-some), rw e at (so .shorts-some)))
+
+-- ---- least, unless_dim, mark
+
+pub tested-lamp : (dim : Bool) (reading : ℕ) → reading ≡ 0 → cond dim 5 0 ≡ unlessDim dim reading
+unfolding unlessDim
+tested-lamp dim reading e = rw e refl
+
+pub tested-other : (dim : Bool) (reading : ℕ) → (reading ≡ 0 → ⊥) → reading ≡ unlessDim dim reading
+unfolding unlessDim
+tested-other dim reading n = rw (ne-eqb reading 0 n) refl
+
+-- the first d readings are marked
+pub record MarkedTo (image old result : List ℕ) (d : ℕ) : Type 0 where
+  pub within : d ≤ 198
+  pub room : length result ≡ length old
+  pub stored : result ≡ filled (testedAt image old) 0 d old
+
+pub marked-none : (image old : List ℕ) → MarkedTo image old old 0
+marked-none image old = record { within = omega arith; room = refl; stored = sym (filled-none (testedAt image old) 0 old) }
+
+pub marked-more : (image old result : List ℕ) (d level least r : ℕ) → d < 198 → 198 ≤ length old → level ≡ levelOf image d →
+    least ≡ leastOf (wideOf image) → r ≡ unlessDim (ltb level least) (getD result d 0) → MarkedTo image old result d →
+    MarkedTo image old (set result d r) (d + 1)
+unfolding testedAt isDim
+marked-more image old result d level least r h room el es er so = record {
+  within = omega arith;
+  room = length-set result d r ∙ so .room;
+  stored = sym (filled-more (testedAt image old) 0 d old ∙ rw (zero-add d, sym (so .stored), sym value) refl);
+}
+  where
+    same : getD result d 0 ≡ getD old d 0
+    same = ap (λ (l : List ℕ). getD l d 0) (so .stored) ∙ filled-out (testedAt image old) 0 d old d (λ l u. omega (arith, zero-add d))
+
+    value : r ≡ testedAt image old d
+    value = er ∙ rw (el, es, same) refl
+
+pub marked-whole : (image old result : List ℕ) (d : ℕ) → 198 ≤ d → MarkedTo image old result d → result ≡ filled (testedAt image old) 0 198 old
+marked-whole image old result d h so = let e : d ≡ 198 = omega (arith, so .within) in rw e at (so .stored)
 
 -- ---- agrees
 
@@ -199,25 +241,67 @@ state-bits state opens shorts p q ep eq = rw (ep, eq, whole state) refl
     whole : (x : ℕ) → x % 2 ≡ x / 1 % 2
     whole x = omega arith
 
+-- ---- both passes
+
+pub read-room : (f : ℕ → ℕ) (old new : List ℕ) → new ≡ filled f 0 198 old → 198 ≤ length old → 198 ≤ length new
+read-room f old new e h = rw (e, filled-length f 0 198 old) h
+
+both-readings : (m : ℕ) (image bytes : List ℕ) (d : ℕ) → unlessDim (isDim image d) (bitsReading m bytes d) ≡ reading m image bytes d
+unfolding unlessDim bitsReading reading lampReading
+both-readings m image bytes d = go (hasDot m d) (isSet Open bytes d) (isSet Short bytes d)
+  where
+    go : (b o s : Bool) →
+        cond (eqb (cond b (lampReading o s false) 4) 0) (cond (isDim image d) 5 0) (cond b (lampReading o s false) 4)
+        ≡ cond b (lampReading o s (isDim image d)) 4
+    go true false false = refl
+    go true true false = refl
+    go true false true = refl
+    go true true true = refl
+    go false o s = refl
+
+module _ (r : Record) (bytes result : List ℕ) (h : 198 ≤ length result) where
+  abbrev by-bits : List ℕ
+  by-bits = filled (bitsReading (r .header .member) bytes) 0 198 result
+
+  pub both-passes : filled (testedAt (r .image) by-bits) 0 198 by-bits ≡ readings r bytes result
+  unfolding readings testedAt
+  both-passes =
+      ext-getD 0 _ _ (filled-length _ 0 198 by-bits ∙ filled-length _ 0 198 result ∙ sym (filled-length _ 0 198 result)) (λ k l. at k (decLt k 198))
+    where
+      at : (k : ℕ) → Dec (k < 198) →
+          getD (filled (λ d. unlessDim (isDim (r .image) d) (getD by-bits d 0)) 0 198 by-bits) k 0
+          ≡ getD (filled (reading (r .header .member) (r .image) bytes) 0 198 result) k 0
+      at k (yes u) =
+          filled-in _ 0 198 by-bits k (omega arith) (omega arith) (omega (arith, filled-length (bitsReading (r .header .member) bytes) 0 198 result))
+          ∙ ap (unlessDim (isDim (r .image) k)) (filled-in _ 0 198 result k (omega arith) (omega arith) (omega arith))
+          ∙ both-readings (r .header .member) (r .image) bytes k
+          ∙ sym (filled-in _ 0 198 result k (omega arith) (omega arith) (omega arith))
+      at k (no n) =
+          filled-out _ 0 198 by-bits k (λ l u. n u) ∙ filled-out _ 0 198 result k (λ l u. n u) ∙ sym (filled-out _ 0 198 result k (λ l u. n u))
+
 -- ---- answer_number, faults
 
 pub refused-number : (answer : Answer) (x : Refusal) (r : ℕ) → answer ≡ Refused x → r ≡ refusalNumber x → r ≡ getD (answerNumbers answer) 0 0
 unfolding answerNumbers
 refused-number answer x r e er = rw (e, er) refl
 
-pub check-passed : (m given room : ℕ) (check : checks.Answer) → check ≡ faultsChecked m given room → check ≡ checks.the-variants.Accepted →
-    Taken m given room
-check-passed m given room check e a = faults-taken m given room (ap accepted (sym e ∙ a))
+pub check-passed : (r : Record) (given room : ℕ) (check : checks.Answer) → check ≡ faultsChecked r given room → check ≡ checks.the-variants.Accepted →
+    Taken r given room
+check-passed r given room check e a = faults-taken r given room (ap accepted (sym e ∙ a))
 
-module _ (m : ℕ) (bytes result : List ℕ) (check : checks.Answer) (e : check ≡ faultsChecked m (length bytes) (length result)) where
+module _ (r : Record) (bytes result : List ℕ) (check : checks.Answer) (e : check ≡ faultsChecked r (length bytes) (length result)) where
   pub refused-is : (x : Refusal) → check ≡ checks.the-variants.Refused x →
-      (Refused x ≡ faultsAnswer m bytes result) × (result ≡ faultsResult m bytes result)
+      (Refused x ≡ faultsAnswer r bytes result) × (result ≡ faultsResult r bytes result)
   unfolding faultsAnswer faultsResult answered
   refused-is x a = (rw (sym e ∙ a) refl, rw (sym e ∙ a) refl)
 
-  pub read-is : (new : List ℕ) (opens shorts : ℕ) (answer : Answer) → check ≡ checks.the-variants.Accepted → new ≡ readings m bytes result →
-      ltb 0 opens ≡ someFaulty Open m bytes → ltb 0 shorts ≡ someFaulty Short m bytes →
+  pub read-is : (read new : List ℕ) (opens shorts : ℕ) (answer : Answer) → check ≡ checks.the-variants.Accepted →
+      read ≡ filled (bitsReading (r .header .member) bytes) 0 198 result → new ≡ filled (testedAt (r .image) read) 0 198 read →
+      ltb 0 opens ≡ someFaulty Open (r .header .member) bytes → ltb 0 shorts ≡ someFaulty Short (r .header .member) bytes →
       answer ≡ Read (Bool·beq (bitSet (getD bytes 0 0) 1) (ltb 0 opens)) (Bool·beq (bitSet (getD bytes 0 0) 0) (ltb 0 shorts)) →
-      (answer ≡ faultsAnswer m bytes result) × (new ≡ faultsResult m bytes result)
+      (answer ≡ faultsAnswer r bytes result) × (new ≡ faultsResult r bytes result)
   unfolding faultsAnswer faultsResult answered opensAgree shortsAgree faultByte
-  read-is new opens shorts answer a en eo es ea = (ea ∙ rw (eo, es, sym e ∙ a) refl, en ∙ rw (sym e ∙ a) refl)
+  read-is read new opens shorts answer a er en eo es ea =
+      (ea ∙ rw (eo, es, sym e ∙ a) refl,
+      en ∙ ap (λ (l : List ℕ). filled (testedAt (r .image) l) 0 198 l) er
+      ∙ both-passes r bytes result (check-passed r _ _ check e a .result) ∙ rw (sym e ∙ a) refl)

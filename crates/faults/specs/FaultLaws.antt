@@ -6,7 +6,7 @@ use mathlib.Core.Bool.{Bool, true, false, cond, _&&_, _||_, false≢true}
 use mathlib.Core.List.{List, [], _∷_}
 use Prim.Native.Nat.{ℕ, zero, suc, _+_, _*_, _/_, _%_, _<_, _≤_}
 use native.Mathlib.Decide.{ℕ-discrete, decLt}
-use native.Mathlib.Nat.{not-suc-le-zero, zero-div}
+use native.Mathlib.Nat.{not-suc-le-zero, zero-div, zero-add}
 use native.Mathlib.Omega.{arith}
 use borrow.Author.Tests.{lt-ltb, le-ltb, eq-eqb, ne-eqb, ltb-false, eqb-true}
 use lib.Dec.{ltb, eqb}
@@ -14,100 +14,101 @@ use lib.ListN.{length, getD}
 use Rattle.map.specs.declared.dots.Field.{Field}
 use Rattle.map.specs.declared.dots.Field.the-variants.{Open, Short}
 use Rattle.map.specs.declared.refusals.Answer as checks
-use Rattle.map.specs.declared.refusals.Refusal.the-variants.{Member, FaultLength, BufferShort}
+use Rattle.map.specs.declared.refusals.Refusal.the-variants.{FaultLength, BufferShort}
 use Rattle.map.specs.Refusals.{accepted}
 use Rattle.map.specs.Map.{linesOf, columnsOf, isDot, dotNumber, addressOf, shiftOf}
 use Rattle.map.specs.MapLaws.{dot-sink, lines-most, number-past}
 use Rattle.map.specs.PlaceLaws.{number-dot}
 use Rattle.map.specs.Lists.{filled}
 use Rattle.map.specs.ListLaws.{filled-length, filled-in, filled-out}
-use Rattle.faults.specs.Faults.{faultByte, bitSet, isSet, hasDot, lampReading, reading, readings, someBelow, isFaulty, someFaulty, opensAgree, shortsAgree, faultsChecked, answerNumbers, answered, faultsAnswer, faultsResult}
+use Rattle.host.specs.declared.Record.{Record}
+use Rattle.host.specs.Record.{soundOf, whenSound}
+use Rattle.host.specs.RecordLaws.{passed}
+use Rattle.faults.specs.Faults.{faultByte, bitSet, isSet, isDim, hasDot, lampReading, reading, readings, someBelow, isFaulty, someFaulty, opensAgree, shortsAgree, faultsChecked, answerNumbers, answered, faultsAnswer, faultsResult}
 
 -- ---- the answers, by document 01's numbers
 
-module _ (m : ℕ) (bytes result : List ℕ) where
-  pub member-refused : 4 < m → answerNumbers (faultsAnswer m bytes result) ≡ 1 ∷ []
-  unfolding faultsAnswer faultsChecked answered answerNumbers
-  member-refused h = rw (lt-ltb 4 m h) refl
+module _ (r : Record) (bytes result : List ℕ) where
+  pub unsound-refused : soundOf r ≡ false → answerNumbers (faultsAnswer r bytes result) ≡ 14 ∷ []
+  unfolding faultsAnswer faultsChecked whenSound answered answerNumbers
+  unsound-refused u = rw u refl
 
-  pub length-refused : m ≤ 4 → (length bytes ≡ 67 → ⊥) → answerNumbers (faultsAnswer m bytes result) ≡ 13 ∷ []
-  unfolding faultsAnswer faultsChecked answered answerNumbers
-  length-refused hm n = rw (le-ltb 4 m hm, ne-eqb (length bytes) 67 n) refl
+  pub length-refused : soundOf r ≡ true → (length bytes ≡ 67 → ⊥) → answerNumbers (faultsAnswer r bytes result) ≡ 13 ∷ []
+  unfolding faultsAnswer faultsChecked whenSound answered answerNumbers
+  length-refused u n = rw (u, ne-eqb (length bytes) 67 n) refl
 
-  pub room-refused : m ≤ 4 → length bytes ≡ 67 → length result < 198 → answerNumbers (faultsAnswer m bytes result) ≡ 10 ∷ []
-  unfolding faultsAnswer faultsChecked answered answerNumbers
-  room-refused hm e h = rw (le-ltb 4 m hm, eq-eqb (length bytes) 67 e, lt-ltb (length result) 198 h) refl
+  pub room-refused : soundOf r ≡ true → length bytes ≡ 67 → length result < 198 → answerNumbers (faultsAnswer r bytes result) ≡ 10 ∷ []
+  unfolding faultsAnswer faultsChecked whenSound answered answerNumbers
+  room-refused u e h = rw (u, eq-eqb (length bytes) 67 e, lt-ltb (length result) 198 h) refl
 
-  pub read-accepted : m ≤ 4 → length bytes ≡ 67 → 198 ≤ length result →
-      answerNumbers (faultsAnswer m bytes result) ≡ 0 ∷ cond (opensAgree m bytes) 1 0 ∷ cond (shortsAgree m bytes) 1 0 ∷ []
-  unfolding faultsAnswer faultsChecked answered answerNumbers
-  read-accepted hm e h = rw (le-ltb 4 m hm, eq-eqb (length bytes) 67 e, le-ltb (length result) 198 h) refl
+  pub read-accepted : soundOf r ≡ true → length bytes ≡ 67 → 198 ≤ length result →
+      answerNumbers (faultsAnswer r bytes result)
+      ≡ 0 ∷ cond (opensAgree (r .header .member) bytes) 1 0 ∷ cond (shortsAgree (r .header .member) bytes) 1 0 ∷ []
+  unfolding faultsAnswer faultsChecked whenSound answered answerNumbers
+  read-accepted u e h = rw (u, eq-eqb (length bytes) 67 e, le-ltb (length result) 198 h) refl
 
 -- nothing else is accepted
-pub record Taken (m given room : ℕ) : Type 0 where
-  pub member : m < 5
+pub record Taken (r : Record) (given room : ℕ) : Type 0 where
+  pub sound : soundOf r ≡ true
   pub bytes : given ≡ 67
   pub result : 198 ≤ room
 
-pub faults-taken : (m given room : ℕ) → accepted (faultsChecked m given room) ≡ true → Taken m given room
-unfolding faultsChecked
-faults-taken m given room e =
-    let t = passed (ltb 4 m) (eqb given 67) (ltb room 198) e in
-    record { member = omega (arith, ltb-false 4 m (t .0)); bytes = eqb-true given 67 (t .1); result = ltb-false room 198 (t .2) }
+pub faults-taken : (r : Record) (given room : ℕ) → accepted (faultsChecked r given room) ≡ true → Taken r given room
+unfolding faultsChecked whenSound
+faults-taken r given room e =
+    let sound = passed (soundOf r) _ _ e in
+    let sized = passed (eqb given 67) _ _ (sound .1) in
+    record { sound = sound .0; bytes = eqb-true given 67 (sized .0); result = ltb-false room 198 (roomy (ltb room 198) (sized .1)) }
   where
-    passed : (a b c : Bool) →
-        accepted (cond a (checks.the-variants.Refused Member) (cond b (cond c (checks.the-variants.Refused BufferShort) checks.the-variants.Accepted) (checks.the-variants.Refused FaultLength))) ≡ true →
-        (a ≡ false) × (b ≡ true) × (c ≡ false)
-    passed true b c e = absurd (false≢true e)
-    passed false false c e = absurd (false≢true e)
-    passed false true true e = absurd (false≢true e)
-    passed false true false e = (refl, refl, refl)
+    roomy : (b : Bool) → accepted (cond b (checks.the-variants.Refused BufferShort) checks.the-variants.Accepted) ≡ true → b ≡ false
+    roomy true q = absurd (false≢true q)
+    roomy false q = refl
 
 -- ---- the buffer
 
-filled-same : (f g : ℕ → ℕ) (a n : ℕ) (xs : List ℕ) → ((k : ℕ) → f k ≡ g k) → filled f a n xs ≡ filled g a n xs
+pub filled-same : (f g : ℕ → ℕ) (n : ℕ) (xs : List ℕ) → ((k : ℕ) → k < n → f k ≡ g k) → filled f 0 n xs ≡ filled g 0 n xs
 unfolding filled
-filled-same f g a zero xs h = refl
-filled-same f g a (suc n) xs h = rw (filled-same f g a n xs h, h (a + n)) refl
+filled-same f g zero xs h = refl
+filled-same f g (suc n) xs h = rw (filled-same f g n xs (λ k u. h k (omega arith)), h (0 + n) (omega (arith, zero-add n))) refl
 
-module _ (m : ℕ) (bytes result : List ℕ) where
+module _ (r : Record) (bytes result : List ℕ) where
   -- a refusal leaves every byte
-  pub refused-keeps : accepted (faultsChecked m (length bytes) (length result)) ≡ false → faultsResult m bytes result ≡ result
+  pub refused-keeps : accepted (faultsChecked r (length bytes) (length result)) ≡ false → faultsResult r bytes result ≡ result
   unfolding faultsResult
   refused-keeps e = rw e refl
 
-  pub result-length : length (faultsResult m bytes result) ≡ length result
+  pub result-length : length (faultsResult r bytes result) ≡ length result
   unfolding faultsResult readings
-  result-length = go (accepted (faultsChecked m (length bytes) (length result)))
+  result-length = go (accepted (faultsChecked r (length bytes) (length result)))
     where
-      go : (b : Bool) → length (cond b (filled (reading m bytes) 0 198 result) result) ≡ length result
-      go true = filled-length (reading m bytes) 0 198 result
+      go : (b : Bool) → length (cond b (filled (reading (r .header .member) (r .image) bytes) 0 198 result) result) ≡ length result
+      go true = filled-length (reading (r .header .member) (r .image) bytes) 0 198 result
       go false = refl
 
-  pub result-at : (d : ℕ) → accepted (faultsChecked m (length bytes) (length result)) ≡ true → d < 198 →
-      getD (faultsResult m bytes result) d 0 ≡ reading m bytes d
+  pub result-at : (d : ℕ) → accepted (faultsChecked r (length bytes) (length result)) ≡ true → d < 198 →
+      getD (faultsResult r bytes result) d 0 ≡ reading (r .header .member) (r .image) bytes d
   unfolding faultsResult readings
   result-at d e h =
       rw e
-      (filled-in (reading m bytes) 0 198 result d (omega arith) (omega arith)
-      (omega (arith, faults-taken m (length bytes) (length result) e .result)))
+      (filled-in (reading (r .header .member) (r .image) bytes) 0 198 result d (omega arith) (omega arith)
+      (omega (arith, faults-taken r (length bytes) (length result) e .result)))
 
   -- the bytes behind the readings stay
-  pub result-behind : (k : ℕ) → 198 ≤ k → getD (faultsResult m bytes result) k 0 ≡ getD result k 0
+  pub result-behind : (k : ℕ) → 198 ≤ k → getD (faultsResult r bytes result) k 0 ≡ getD result k 0
   unfolding faultsResult readings
-  result-behind k h = go (accepted (faultsChecked m (length bytes) (length result)))
+  result-behind k h = go (accepted (faultsChecked r (length bytes) (length result)))
     where
-      go : (b : Bool) → getD (cond b (filled (reading m bytes) 0 198 result) result) k 0 ≡ getD result k 0
-      go true = filled-out (reading m bytes) 0 198 result k (λ l u. omega arith)
+      go : (b : Bool) → getD (cond b (filled (reading (r .header .member) (r .image) bytes) 0 198 result) result) k 0 ≡ getD result k 0
+      go true = filled-out (reading (r .header .member) (r .image) bytes) 0 198 result k (λ l u. omega arith)
       go false = refl
 
 -- ---- the reading of a dot
 
-module _ (m : ℕ) where
+module _ (m : ℕ) (image : List ℕ) where
   -- of a line and a sink
   pub reading-dot : (bytes : List ℕ) (l s : ℕ) → isDot m l s ≡ true →
-      reading m bytes (dotNumber l s)
-      ≡ lampReading (bitSet (faultByte bytes (addressOf Open l s)) (shiftOf Open s)) (bitSet (faultByte bytes (addressOf Short l s)) (shiftOf Short s))
+      reading m image bytes (dotNumber l s)
+      ≡ lampReading (bitSet (faultByte bytes (addressOf Open l s)) (shiftOf Open s)) (bitSet (faultByte bytes (addressOf Short l s)) (shiftOf Short s)) (isDim image (dotNumber l s))
   unfolding reading hasDot isSet
   reading-dot bytes l s e = rw (number-dot m l s e, line l s (dot-sink m l s e), sink l s (dot-sink m l s e)) refl
     where
@@ -117,66 +118,89 @@ module _ (m : ℕ) where
       sink : (l s : ℕ) → s < 18 → (18 * l + s) % 18 ≡ s
       sink l s h = omega arith
 
-  -- it depends only on its own two bits
+  -- of the fault bytes it depends only on its own two bits
   pub reading-own : (bytes other : List ℕ) (d : ℕ) → isSet Open bytes d ≡ isSet Open other d → isSet Short bytes d ≡ isSet Short other d →
-      reading m bytes d ≡ reading m other d
+      reading m image bytes d ≡ reading m image other d
   unfolding reading
   reading-own bytes other d eo es = rw (eo, es) refl
 
-  pub absent-reads : (bytes : List ℕ) (d : ℕ) → hasDot m d ≡ false → reading m bytes d ≡ 4
+  pub absent-reads : (bytes : List ℕ) (d : ℕ) → hasDot m d ≡ false → reading m image bytes d ≡ 4
   unfolding reading
   absent-reads bytes d e = rw e refl
 
   -- what an existing dot reads
   module _ (bytes : List ℕ) (d : ℕ) (e : hasDot m d ≡ true) where
-    existing : (o s : Bool) → isSet Open bytes d ≡ o → isSet Short bytes d ≡ s → reading m bytes d ≡ lampReading o s
+    existing : (o s : Bool) → isSet Open bytes d ≡ o → isSet Short bytes d ≡ s → reading m image bytes d ≡ lampReading o s (isDim image d)
     unfolding reading
     existing o s eo es = rw (e, eo, es) refl
 
-    pub clear-reads-sound : isSet Open bytes d ≡ false → isSet Short bytes d ≡ false → reading m bytes d ≡ 0
+    pub clear-reads : isSet Open bytes d ≡ false → isSet Short bytes d ≡ false → reading m image bytes d ≡ cond (isDim image d) 5 0
     unfolding lampReading
-    clear-reads-sound eo es = existing false false eo es
+    clear-reads eo es = existing false false eo es
 
-    pub open-reads : isSet Open bytes d ≡ true → (reading m bytes d ≡ 1) ⊎ (reading m bytes d ≡ 3)
+    pub open-reads : isSet Open bytes d ≡ true → (reading m image bytes d ≡ 1) ⊎ (reading m image bytes d ≡ 3)
     unfolding lampReading
     open-reads eo = go (isSet Short bytes d) refl
       where
-        go : (s : Bool) → isSet Short bytes d ≡ s → (reading m bytes d ≡ 1) ⊎ (reading m bytes d ≡ 3)
+        go : (s : Bool) → isSet Short bytes d ≡ s → (reading m image bytes d ≡ 1) ⊎ (reading m image bytes d ≡ 3)
         go false es = inl (existing true false eo es)
         go true es = inr (existing true true eo es)
 
-    pub short-reads : isSet Short bytes d ≡ true → (reading m bytes d ≡ 2) ⊎ (reading m bytes d ≡ 3)
+    pub short-reads : isSet Short bytes d ≡ true → (reading m image bytes d ≡ 2) ⊎ (reading m image bytes d ≡ 3)
     unfolding lampReading
     short-reads es = go (isSet Open bytes d) refl
       where
-        go : (o : Bool) → isSet Open bytes d ≡ o → (reading m bytes d ≡ 2) ⊎ (reading m bytes d ≡ 3)
+        go : (o : Bool) → isSet Open bytes d ≡ o → (reading m image bytes d ≡ 2) ⊎ (reading m image bytes d ≡ 3)
         go false eo = inl (existing false true eo es)
         go true eo = inr (existing true true eo es)
 
-  -- a reading is one of the five
-  pub reading-range : (bytes : List ℕ) (d : ℕ) → reading m bytes d ≤ 4
+  -- a reading is one of the six
+  pub reading-range : (bytes : List ℕ) (d : ℕ) → reading m image bytes d ≤ 5
   unfolding reading lampReading
-  reading-range bytes d = go (hasDot m d) (isSet Open bytes d) (isSet Short bytes d)
+  reading-range bytes d = go (hasDot m d) (isSet Open bytes d) (isSet Short bytes d) (isDim image d)
     where
-      go : (b o s : Bool) → cond b (lampReading o s) 4 ≤ 4
-      go true false false = omega arith
-      go true true false = omega arith
-      go true false true = omega arith
-      go true true true = omega arith
-      go false o s = omega arith
+      go : (b o s dim : Bool) → cond b (lampReading o s dim) 4 ≤ 5
+      go true false false true = omega arith
+      go true false false false = omega arith
+      go true true false dim = omega arith
+      go true false true dim = omega arith
+      go true true true dim = omega arith
+      go false o s dim = omega arith
 
-  -- a lamp reads sound only where it exists and both its bits are clear
-  pub sound-is-clear : (bytes : List ℕ) (d : ℕ) → reading m bytes d ≡ 0 →
-      (hasDot m d ≡ true) × (isSet Open bytes d ≡ false) × (isSet Short bytes d ≡ false)
-  unfolding reading lampReading
-  sound-is-clear bytes d = go (hasDot m d) (isSet Open bytes d) (isSet Short bytes d)
-    where
-      go : (b o s : Bool) → cond b (lampReading o s) 4 ≡ 0 → (b ≡ true) × (o ≡ false) × (s ≡ false)
-      go true false false e = (refl, refl, refl)
-      go true true false e = absurd (omega arith)
-      go true false true e = absurd (omega arith)
-      go true true true e = absurd (omega arith)
-      go false o s e = absurd (omega arith)
+  -- a lamp with clear bits: it exists, its level is below the figure or it is not, and both its bits are clear
+  pub record ClearLamp (bytes : List ℕ) (d : ℕ) (dim : Bool) : Type 0 where
+    pub exists : hasDot m d ≡ true
+    pub opened : isSet Open bytes d ≡ false
+    pub shorted : isSet Short bytes d ≡ false
+    pub lit : isDim image d ≡ dim
+
+  module _ (bytes : List ℕ) (d : ℕ) where
+    clear-lamp : (dim : Bool) → reading m image bytes d ≡ cond dim 5 0 → ClearLamp bytes d dim
+    unfolding reading lampReading
+    clear-lamp dim e = go (hasDot m d) (isSet Open bytes d) (isSet Short bytes d) (isDim image d) dim refl refl refl refl e
+      where
+        go : (b o s x y : Bool) → hasDot m d ≡ b → isSet Open bytes d ≡ o → isSet Short bytes d ≡ s → isDim image d ≡ x →
+            cond b (lampReading o s x) 4 ≡ cond y 5 0 → ClearLamp bytes d y
+        go true false false true true eb eo es ex q = record { exists = eb; opened = eo; shorted = es; lit = ex }
+        go true false false false false eb eo es ex q = record { exists = eb; opened = eo; shorted = es; lit = ex }
+        go true false false true false eb eo es ex q = absurd (omega arith)
+        go true false false false true eb eo es ex q = absurd (omega arith)
+        go true true false x true eb eo es ex q = absurd (omega arith)
+        go true true false x false eb eo es ex q = absurd (omega arith)
+        go true false true x true eb eo es ex q = absurd (omega arith)
+        go true false true x false eb eo es ex q = absurd (omega arith)
+        go true true true x true eb eo es ex q = absurd (omega arith)
+        go true true true x false eb eo es ex q = absurd (omega arith)
+        go false o s x true eb eo es ex q = absurd (omega arith)
+        go false o s x false eb eo es ex q = absurd (omega arith)
+
+    -- a lamp reads sound only where it exists, both its bits are clear and the chip has looked
+    pub sound-is-tested : reading m image bytes d ≡ 0 → ClearLamp bytes d false
+    sound-is-tested e = clear-lamp false e
+
+    -- and untested only where it exists, both its bits are clear and it is dim
+    pub untested-is-dim : reading m image bytes d ≡ 5 → ClearLamp bytes d true
+    untested-is-dim e = clear-lamp true e
 
 -- ---- clear bytes
 
@@ -205,9 +229,9 @@ module _ (bytes : List ℕ) (clear : Clear bytes) where
   unfolding isSet addressOf
   clear-short d h = rw (clear (0x086 + 3 * (d / 18) + d % 18 / 8) (omega arith) (omega arith)) (clear-bit (shiftOf Short (d % 18)))
 
-  pub all-clear-sound : (m d : ℕ) → hasDot m d ≡ true → reading m bytes d ≡ 0
-  all-clear-sound m d e =
-      clear-reads-sound m bytes d e (clear-open d (has-dot-below m d e)) (clear-short d (has-dot-below m d e))
+  pub all-clear : (m : ℕ) (image : List ℕ) (d : ℕ) → hasDot m d ≡ true → reading m image bytes d ≡ cond (isDim image d) 5 0
+  all-clear m image d e =
+      clear-reads m image bytes d e (clear-open d (has-dot-below m d e)) (clear-short d (has-dot-below m d e))
 
 -- ---- the summary
 
@@ -269,21 +293,19 @@ module _ (m : ℕ) (bytes other : List ℕ) where
   unfolding shortsAgree
   same-shorts-agree s = rw (s .state, faulty-same Short (s .shorted)) refl
 
-  pub same-reading : SameLamps m bytes other → (d : ℕ) → reading m bytes d ≡ reading m other d
-  same-reading s d = go (hasDot m d) refl
+  pub same-reading : (image : List ℕ) → SameLamps m bytes other → (d : ℕ) → reading m image bytes d ≡ reading m image other d
+  same-reading image s d = go (hasDot m d) refl
     where
-      go : (b : Bool) → hasDot m d ≡ b → reading m bytes d ≡ reading m other d
-      go true e = reading-own m bytes other d (s .opened d e) (s .shorted d e)
-      go false e = absent-reads m bytes d e ∙ sym (absent-reads m other d e)
+      go : (b : Bool) → hasDot m d ≡ b → reading m image bytes d ≡ reading m image other d
+      go true e = reading-own m image bytes other d (s .opened d e) (s .shorted d e)
+      go false e = absent-reads m image bytes d e ∙ sym (absent-reads m image other d e)
 
-  -- the whole answer, and the whole buffer
-  pub same-answer : (result : List ℕ) → length bytes ≡ length other → SameLamps m bytes other →
-      faultsAnswer m bytes result ≡ faultsAnswer m other result
+-- the whole answer, and the whole buffer
+module _ (r : Record) (bytes other result : List ℕ) (e : length bytes ≡ length other) (s : SameLamps (r .header .member) bytes other) where
+  pub same-answer : faultsAnswer r bytes result ≡ faultsAnswer r other result
   unfolding faultsAnswer
-  same-answer result e s = rw (e, same-opens-agree s, same-shorts-agree s) refl
+  same-answer = rw (e, same-opens-agree (r .header .member) bytes other s, same-shorts-agree (r .header .member) bytes other s) refl
 
-  pub same-result : (result : List ℕ) → length bytes ≡ length other → SameLamps m bytes other →
-      faultsResult m bytes result ≡ faultsResult m other result
+  pub same-result : faultsResult r bytes result ≡ faultsResult r other result
   unfolding faultsResult readings
-  same-result result e s =
-      rw (e, filled-same (reading m bytes) (reading m other) 0 198 result (same-reading s)) refl
+  same-result = rw (e, filled-same _ _ 198 result (λ d u. same-reading (r .header .member) bytes other (r .image) s d)) refl

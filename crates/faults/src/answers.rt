@@ -3,17 +3,25 @@ ghost use mathlib.Core.Path.{_≡_};
 ghost use mathlib.Core.Bool.{Bool·beq};
 ghost use Prim.Native.Nat.{_<_};
 ghost use lib.Dec.{ltb, eqb};
+ghost use Rattle.host.specs.Record.{recordOf};
 ghost use Rattle.faults.specs.declared.Answer.the-variants.{Read};
 ghost use Rattle.faults.specs.Faults.{bitSet, faultsChecked};
 use crate::Answer;
+use host::Header;
 use map::Refusal;
 
-// The refusals, by the lengths of the fault bytes and of the result.
-pub(crate) fn checked(member: usize, given: usize, room: usize) -> map::Answer
-    ensures { λ r. ⌜ r ≡ faultsChecked member given room ⌝ }
+// The refusals, by a record in its parts and the lengths of the fault bytes and of the result.
+pub(crate) fn checked<'a>(
+    header: Header,
+    settings: &'a [u8],
+    image: &'a [u8],
+    given: usize,
+    room: usize,
+) -> map::Answer
+    ensures { λ r. ⌜ r ≡ faultsChecked (recordOf header (now (settings .entry)) (now (image .entry))) given room ⌝ }
 {
-    if 4 < member {
-        return map::Answer::Refused(Refusal::Member);
+    if !host::sound_parts(header, settings, image) {
+        return map::Answer::Refused(Refusal::Unsound);
     }
     if given != 67 {
         return map::Answer::Refused(Refusal::FaultLength);

@@ -1,4 +1,4 @@
-// The readings of the dots. `exists` is whether the member has the dot.
+// The readings of the dots by their bits alone. `exists` is whether the member has the dot.
 ghost use mathlib.Core.Path.{_≡_};
 ghost use mathlib.Core.Bool.{cond};
 ghost use mathlib.Core.List.{List};
@@ -7,8 +7,9 @@ ghost use lib.Dec.{ltb};
 ghost use lib.ListN.{length, getD};
 ghost use Rattle.map.specs.declared.dots.Field.the-variants.{Open, Short};
 ghost use Rattle.map.specs.Map.{linesOf, columnsOf};
-ghost use Rattle.faults.specs.Faults.{readings, someFaulty};
-ghost use Rattle.faults.specs.ReadTo.{ReadTo};
+ghost use Rattle.map.specs.Lists.{filled};
+ghost use Rattle.faults.specs.Faults.{someFaulty};
+ghost use Rattle.faults.specs.ReadTo.{bitsReading, ReadTo};
 
 // Where the open bytes and the short bytes begin, behind 064h.
 const OPENS: usize = 0x065 - 0x064;
@@ -81,10 +82,10 @@ fn read_line(
     }
 }
 
-// Stores the reading of each dot at its number.
+// Stores the reading by its bits of each dot at its number.
 pub(crate) fn read_all(member: usize, bytes: &[u8], result: &mut [u8]) -> Found
     requires { ⌜ (length (now bytes) ≡ 67) × (198 ≤ length (now result)) ⌝ }
-    ensures { λ _. ⌜ now (result .exit) ≡ readings member (now (bytes .entry)) (now (result .entry)) ⌝ }
+    ensures { λ _. ⌜ now (result .exit) ≡ filled (bitsReading member (now (bytes .entry))) 0 198 (now (result .entry)) ⌝ }
     ensures { λ r. ⌜ (ltb 0 (r .opens) ≡ someFaulty Open member (now (bytes .entry))) × (ltb 0 (r .shorts) ≡ someFaulty Short member (now (bytes .entry))) ⌝ }
 {
     let lines = map::lines(member);

@@ -1,0 +1,89 @@
+-- Dim lamps: with none the readings are those by the bits alone, and what does not see them.
+-- Assumes nothing.
+use mathlib.Core.Path.{_≡_, refl, ap}
+use mathlib.Core.Bool.{Bool, true, false, cond}
+use mathlib.Core.Logic.{_⊎_, inl, inr}
+use mathlib.Core.List.{List}
+use Prim.Native.Nat.{ℕ, _<_, _≤_}
+use native.Mathlib.Omega.{arith}
+use borrow.Author.Tests.{lt-ltb, le-ltb}
+use lib.Dec.{ltb}
+use Rattle.map.specs.declared.dots.Field.the-variants.{Open, Short}
+use Rattle.map.specs.Lists.{filled}
+use Rattle.dots.specs.Dots.{wideOf, levelOf}
+use Rattle.host.specs.declared.Record.{Record}
+use Rattle.host.specs.Record.{recordOf, soundOf, whenSound}
+use Rattle.faults.specs.Faults.{leastOf, isDim, isSet, hasDot, lampReading, reading, readings, faultsChecked, faultsAnswer, faultsResult}
+use Rattle.faults.specs.FaultLaws.{filled-same, has-dot-below}
+use Rattle.faults.specs.ReadTo.{bitsReading}
+
+-- ---- a lamp at or above the figure, and one below it
+
+module _ (image : List ℕ) (d : ℕ) where
+  pub bright : leastOf (wideOf image) ≤ levelOf image d → isDim image d ≡ false
+  unfolding isDim
+  bright h = le-ltb (levelOf image d) (leastOf (wideOf image)) h
+
+  pub dim : levelOf image d < leastOf (wideOf image) → isDim image d ≡ true
+  unfolding isDim
+  dim h = lt-ltb (levelOf image d) (leastOf (wideOf image)) h
+
+-- ---- the reading of a lamp
+
+module _ (m : ℕ) (image bytes : List ℕ) (d : ℕ) where
+  -- one that is not dim reads as by its bits
+  pub bright-reads : isDim image d ≡ false → reading m image bytes d ≡ bitsReading m bytes d
+  unfolding reading bitsReading
+  bright-reads e = rw e refl
+
+  -- "A set bit reads as before.": however dim the lamp is
+  pub set-reads : (isSet Open bytes d ≡ true) ⊎ (isSet Short bytes d ≡ true) → reading m image bytes d ≡ bitsReading m bytes d
+  unfolding reading bitsReading lampReading
+  set-reads (inl e) = rw e (go (hasDot m d) (isSet Short bytes d))
+    where
+      go : (b s : Bool) → cond b (lampReading true s (isDim image d)) 4 ≡ cond b (lampReading true s false) 4
+      go true true = refl
+      go true false = refl
+      go false s = refl
+  set-reads (inr e) = rw e (go (hasDot m d) (isSet Open bytes d))
+    where
+      go : (b o : Bool) → cond b (lampReading o true (isDim image d)) 4 ≡ cond b (lampReading o true false) 4
+      go true true = refl
+      go true false = refl
+      go false o = refl
+
+  -- "So does an absent dot."
+  pub absent-as-before : hasDot m d ≡ false → reading m image bytes d ≡ bitsReading m bytes d
+  unfolding reading bitsReading
+  absent-as-before e = rw e refl
+
+-- ---- the whole buffer
+
+-- "at or above the figure": every lamp that the record's member has, in the chip image and its own data mode
+abbrev pub NoneDim : Record → Type 0
+NoneDim r = (d : ℕ) → hasDot (r .header .member) d ≡ true → leastOf (wideOf (r .image)) ≤ levelOf (r .image) d
+
+module _ (r : Record) (bytes result : List ℕ) where
+  -- with no dim lamp the readings are the old ones, those by the bits alone
+  pub none-dim : NoneDim r → readings r bytes result ≡ filled (bitsReading (r .header .member) bytes) 0 198 result
+  unfolding readings
+  none-dim h = filled-same _ _ 198 result (λ d u. go d (hasDot (r .header .member) d) refl)
+    where
+      go : (d : ℕ) (b : Bool) → hasDot (r .header .member) d ≡ b →
+          reading (r .header .member) (r .image) bytes d ≡ bitsReading (r .header .member) bytes d
+      go d true e = bright-reads (r .header .member) (r .image) bytes d (bright (r .image) d (h d e))
+      go d false e = absent-as-before (r .header .member) (r .image) bytes d e
+
+-- ---- what does not see the levels, and what does not see the settings
+
+-- of two sound records of one member the answers are the same, whatever their levels are
+pub same-answers : (r q : Record) (bytes result : List ℕ) → soundOf r ≡ true → soundOf q ≡ true → r .header .member ≡ q .header .member →
+    faultsAnswer r bytes result ≡ faultsAnswer q bytes result
+unfolding faultsAnswer faultsChecked whenSound
+same-answers r q bytes result er eq em = rw (er, eq, em) refl
+
+-- and with one chip image the readings are the same, whatever their settings are
+pub same-readings : (r q : Record) (bytes result : List ℕ) → r .header .member ≡ q .header .member → r .image ≡ q .image →
+    readings r bytes result ≡ readings q bytes result
+unfolding readings
+same-readings r q bytes result em ei = rw (em, ei) refl
