@@ -155,11 +155,11 @@ uint32_t lp586x_transaction(const uint8_t *list, size_t list_size, uint32_t inde
 
 /* ---- Lamp faults */
 
-/* The 67 bytes 064h to 0A6h as read from the record's chip: the first 198 bytes of the result become, by dot number, 0 sound, 1 open,
- * 2 short, 3 both, 4 no such dot, 5 untested. Untested is a lamp with both bits clear whose level in the chip image is below 25, or below
- * 6,400 at data mode 2 or 3 of the chip image: the chip looks for faults from there up only. Settings that no update has sent are no matter,
- * so call this before the update that follows the read. opens_agree is 1 if bit 1 of 064h says whether a dot is open, shorts_agree if
- * bit 0 does for short, else 0. 14, 13, 10 (result under 198).
+/* The 67 bytes 064h to 0A6h as read from the record's chip: the first 198 bytes of the result become, by dot number, 0 sound,
+ * 1 open, 2 short, 3 both, 4 no such dot, 5 untested. Untested is a lamp with both bits clear whose level in the chip image is
+ * below 25, or 6,400 at data mode 2 or 3 of the chip image: there the chip does not look for faults. Settings that no update has
+ * sent are no matter, so call this before the update that follows the read. opens_agree is 1 if bit 1 of 064h says whether a dot
+ * is open, shorts_agree if bit 0 does for short, else 0. 14, 13, 10 (result under 198).
  * Reads record and bytes, changes result, opens_agree and shorts_agree, none null. */
 uint32_t lp586x_faults(const uint8_t *record, size_t record_size, const uint8_t *bytes, size_t bytes_size, uint8_t *result,
                        size_t result_size, uint32_t *opens_agree, uint32_t *shorts_agree);

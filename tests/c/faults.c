@@ -101,8 +101,8 @@ static void as_sent(uint32_t member)
 
 /* ---- Any images */
 
-/* Anything in the writable bits: the data mode, switches, groups and currents too. Half of the bytes of levels are those of 24, 25,
- * 6,399 and 6,400. */
+/* Anything in the writable bits: the data mode, switches, groups and currents too. Half of the bytes of levels are those of 24,
+ * 25, 6,399 and 6,400. */
 static void any_registers(uint32_t member, uint8_t *registers)
 {
     static const uint8_t near[] = {0x00, 0x18, 0x19, 0xFF};

@@ -667,7 +667,7 @@ uint32_t reference_chip_feed(uint8_t *bytes, size_t size, const uint8_t *list, s
 
 /* ---- Lamp faults */
 
-/* "only performed when PWM >= 25 (Mode 1 and Mode 2) or PWM >= 6400 (Mode 3)", of opens and of shorts */
+/* Document 002, lines 622 and 633: "only performed when PWM >= 25 (Mode 1 and Mode 2) or PWM >= 6400 (Mode 3)" */
 enum { TESTED_FROM_8_BITS = 25, TESTED_FROM_16_BITS = 6400 };
 
 /* Readings: opens in bit 0, shorts in bit 1, or one of these. */

@@ -189,7 +189,7 @@ static void lists(const struct world *world)
     check(outcome.needed == OUT_UNTOUCHED && outcome.n == 1 && outcome.t == 4, "n is %u, t is %u", outcome.n, outcome.t);
 }
 
-/* A record that is not sound, by one byte or by its size: 14, and not 1 where its member is none. Pins 3. */
+/* One wrong byte in a record with pins 3, which SPI does not have, or a wrong size: 14, and not 1 where the member is none. */
 static void faults_of_unsound(struct call call)
 {
     static const struct {

@@ -28,9 +28,11 @@ use Rattle.host.specs.declared.Header.{Header}
 use Rattle.host.specs.declared.Record.{Record}
 use Rattle.host.specs.declared.Changed.{Changed}
 use Rattle.host.specs.Record.{recordOf, opened, openHost, openOf, settingAnswer, settingNumbers, putSetting, changedTo, settingOf, soundAnswer, powerLostOf}
+use Rattle.faults.specs.declared.Answer as faults
+use Rattle.faults.specs.Faults.{faultsAnswer, faultsResult}
 use Rattle.chip.specs.declared.Chip.{Chip}
 use Rattle.chip.specs.Chip.{chipOf, newChip, atResetOf, applyAll, feedAnswer, feedOf}
-use Rattle.capi.specs.Capi.{headerIn, settingsAt, settingsIn, imageAt, imageIn, recordIn, recordBytes, recordSize, recordSized, registersAt, chipIn, chipBytes, chipSize, whenSized, settingNumber, settingBytes, sizedNumbers, chipNumber, chipAfter}
+use Rattle.capi.specs.Capi.{headerIn, settingsAt, settingsIn, imageAt, imageIn, recordIn, recordBytes, recordSize, recordSized, registersAt, chipIn, chipBytes, chipSize, whenSized, settingNumber, settingBytes, sizedNumbers, chipNumber, chipAfter, bufferAfter, faultsAnswerBy}
 use Rattle.capi.specs.CapiLaws.{front, settings-stored, image-stored, record-sized, record-unsized, chip-sized, chip-unsized}
 
 -- ---- parts of a list
@@ -295,3 +297,15 @@ module _ (bytes : List ℕ) (h : length bytes ≡ chipSize) where
 pub bool-number : (b : Bool) → boolByte b ≡ cond b 1 0
 bool-number true = refl
 bool-number false = refl
+
+module _ (bytes : List ℕ) (h : length bytes ≡ recordSize) (header : Header) (eh : header ≡ headerIn bytes) (given result : List ℕ) where
+  abbrev held : Record
+  held = recordOf header (settingsIn bytes) (imageIn bytes)
+
+  pub faults-answer : (answer : faults.Answer) → answer ≡ faultsAnswer held given result → faultsAnswerBy bytes (faultsAnswer (recordIn bytes) given result) ≡ answer
+  unfolding faultsAnswerBy recordIn
+  faults-answer answer e = rw (record-sized bytes h, sym eh) (sym e)
+
+  pub faults-result : (new : List ℕ) → new ≡ faultsResult held given result → new ≡ bufferAfter bytes (faultsResult (recordIn bytes) given result) result
+  unfolding bufferAfter recordIn
+  faults-result new e = rw (record-sized bytes h, sym eh) e

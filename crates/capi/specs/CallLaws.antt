@@ -6,7 +6,7 @@ use mathlib.Core.Bool.{Bool, true, false, cond, false≢true}
 use mathlib.Core.List.{List}
 use Prim.Native.Nat.{ℕ, _+_, _*_, _≤_}
 use native.Mathlib.Omega.{arith}
-use lib.ListN.{length}
+use lib.ListN.{length, getD}
 use Rattle.map.specs.declared.refusals.Answer.{Answer}
 use Rattle.map.specs.declared.refusals.Answer.the-variants.{Accepted}
 use Rattle.map.specs.declared.refusals.Refusal.the-variants.{Unsound}
@@ -21,11 +21,14 @@ use Rattle.update.specs.declared.ListAnswer.the-variants.{Listed, Short, Refuse
 use Rattle.update.specs.declared.Updated.{Updated}
 use Rattle.update.specs.Update.{isListed, listNumber, Sending, sendAnswer, sendOf, sendBuffer, clearOf}
 use Rattle.update.specs.SendLaws.{answered, host-kept, buffer-kept, answer-of, clear-leaves}
+use Rattle.faults.specs.declared.Answer as faults
+use Rattle.faults.specs.Faults.{answerNumbers, faultsAnswer, faultsResult}
+use Rattle.faults.specs.FaultLaws.{refuses}
 use Rattle.chip.specs.declared.Chip.{Chip}
 use Rattle.chip.specs.Chip.{atResetOf, feedOf}
-use Rattle.capi.specs.Capi.{recordIn, recordBytes, chipBytes, recordSize, recordSized, chipSized, whenSized, Outcome, settingNumber, settingBytes, settingOutcome, chipNumber, chipAfter, chipOutcome, listAnswer, listBytes, bufferAfter, stored, nAfter, tAfter, ListOutcome, listOutcome}
+use Rattle.capi.specs.Capi.{recordIn, recordBytes, chipBytes, recordSize, recordSized, chipSized, whenSized, Outcome, settingNumber, settingBytes, settingOutcome, chipNumber, chipAfter, chipOutcome, listAnswer, listBytes, bufferAfter, stored, nAfter, tAfter, ListOutcome, listOutcome, faultsAnswerBy, faultsOutcome}
 use Rattle.capi.specs.CapiLaws.{record-round, record-back, chip-back, record-sized, chip-sized, record-length, chip-length, zero-accepted, zero-listed, list-keeps, bytes-keep}
-use Rattle.capi.specs.Calls.{openCall, settingCall, powerLostCall, sendCall, chipAtResetCall, chipPowerLostCall, chipFeedCall}
+use Rattle.capi.specs.Calls.{openCall, settingCall, powerLostCall, sendCall, faultsCall, chipAtResetCall, chipPowerLostCall, chipFeedCall}
 
 -- ---- Calls on values, as outcomes
 
@@ -104,6 +107,12 @@ module _ (r : Record) (hs : length (r .settings) ≡ 908) (hi : length (r .image
       ap (λ (x : Record). listOutcome (recordBytes r) (sendOf x (f x) (length buffer)) (sendBuffer x (f x) buffer) buffer n t) (record-back r hs hi)
       ∙ list-stored (sendOf r (f r) (length buffer)) (sendBuffer r (f r) buffer) buffer n t
       (λ e. host-kept r (f r) (length buffer) (sym (ap isListed (answer-of r (f r) (length buffer))) ∙ e))
+
+  -- Faults, which only reads the record
+  pub faults-call : (given result : List ℕ) (opens shorts : ℕ) →
+      faultsCall (recordBytes r) given result opens shorts ≡ faultsOutcome (faultsAnswer r given result) (faultsResult r given result) opens shorts
+  unfolding faultsAnswerBy bufferAfter
+  faults-call given result opens shorts = rw (record-back r hs hi, sized) refl
 
 -- Clear leaves the record's bytes, which it only reads
 pub clear-bytes : (bytes : List ℕ) (size : ℕ) → length bytes ≡ recordSize → listBytes bytes (clearOf (recordIn bytes) size) ≡ bytes
@@ -208,3 +217,24 @@ module _ (f : Record → Sending) (bytes buffer : List ℕ) (n t : ℕ) where
           cond b (sendBuffer r (f r) buffer) buffer ≡ buffer
       lent true y = buffer-kept r (f r) buffer (list-keeps (sendAnswer r (f r) (length buffer)) y .unlisted)
       lent false y = refl
+
+-- ---- Faults
+
+module _ (bytes given result : List ℕ) (opens shorts : ℕ) where
+  -- the result and both answers are as they were
+  pub record FaultsKept : Type 0 where
+    pub result-stays : faultsCall bytes given result opens shorts .result ≡ result
+    pub opens-stay : faultsCall bytes given result opens shorts .opens ≡ opens
+    pub shorts-stay : faultsCall bytes given result opens shorts .shorts ≡ shorts
+
+  -- "A refused call changes no byte that was lent to it"
+  pub faults-refused : (faultsCall bytes given result opens shorts .answer ≡ 0 → ⊥) → FaultsKept
+  unfolding faultsAnswerBy bufferAfter answerNumbers
+  faults-refused = go (recordSized bytes) refl
+    where
+      go : (b : Bool) → recordSized bytes ≡ b →
+          (getD (answerNumbers (cond b (faultsAnswer (recordIn bytes) given result) (faults.the-variants.Refused Unsound))) 0 0 ≡ 0 → ⊥) → FaultsKept
+      go false e z = record { result-stays = rw e refl; opens-stay = rw e refl; shorts-stay = rw e refl }
+      go true e z =
+          let x = refuses (recordIn bytes) given result z in
+          record { result-stays = rw e (x .result-stays); opens-stay = rw e (x .no-opens opens); shorts-stay = rw e (x .no-shorts shorts) }

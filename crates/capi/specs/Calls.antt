@@ -11,8 +11,9 @@ use Rattle.calls.specs.declared.Setting.{Setting}
 use Rattle.host.specs.Record.{openOf, settingOf, powerLostOf}
 use Rattle.host.specs.declared.Record.{Record}
 use Rattle.update.specs.Update.{Sending, sendOf, sendBuffer, updating, updateOf, resetting, clearing}
+use Rattle.faults.specs.Faults.{faultsAnswer, faultsResult}
 use Rattle.chip.specs.Chip.{atResetOf, feedOf}
-use Rattle.capi.specs.Capi.{recordIn, chipIn, Outcome, settingOutcome, sizedNumbers, chipOutcome, listAnswer, neededAfter, ListOutcome, listOutcome, PlaceOutcome, placeOutcome}
+use Rattle.capi.specs.Capi.{recordIn, chipIn, Outcome, settingOutcome, sizedNumbers, chipOutcome, listAnswer, neededAfter, ListOutcome, listOutcome, bufferAfter, PlaceOutcome, placeOutcome, faultsAnswerBy, FaultsOutcome, faultsOutcome}
 
 -- ---- The record and its settings
 
@@ -58,6 +59,14 @@ clearCall = sendCall clearing
 -- lp586x_transaction
 abbrev pub transactionCall : List ℕ → ℕ → ℕ → ℕ → PlaceOutcome
 transactionCall list index offset size = placeOutcome (placeOf list index) offset size
+
+-- ---- Lamp faults
+
+-- lp586x_faults: given are the fault bytes
+abbrev pub faultsCall : List ℕ → List ℕ → List ℕ → ℕ → ℕ → FaultsOutcome
+faultsCall bytes given result opens shorts =
+    faultsOutcome (faultsAnswerBy bytes (faultsAnswer (recordIn bytes) given result)) (bufferAfter bytes (faultsResult (recordIn bytes) given result) result)
+    opens shorts
 
 -- ---- The chip model
 

@@ -21,6 +21,8 @@ use Rattle.update.specs.declared.ListAnswer.{ListAnswer}
 use Rattle.update.specs.declared.ListAnswer.the-variants.{Listed, Short, Refused}
 use Rattle.update.specs.declared.Updated.{Updated}
 use Rattle.update.specs.Update.{listNumbers, listNumber, isListed}
+use Rattle.faults.specs.declared.Answer as faults
+use Rattle.faults.specs.Faults.{answerNumbers}
 use Rattle.chip.specs.declared.Chip.{Chip}
 use Rattle.chip.specs.Chip.{chipOf}
 
@@ -195,4 +197,26 @@ placeOutcome place offset size = record {
   answer = getD (placeNumbers place) 0 0;
   offset = getD (placeNumbers place) 1 offset;
   size = getD (placeNumbers place) 2 size;
+}
+
+-- ---- Faults
+
+-- "14 unsound record or chip, or its size is wrong", as the answer of Faults
+unfoldable pub faultsAnswerBy : List ℕ → faults.Answer → faults.Answer
+faultsAnswerBy bytes answer = cond (recordSized bytes) answer (faults.the-variants.Refused Unsound)
+
+-- what it answers, and what it leaves: the result and the two answers about 064h
+pub record FaultsOutcome : Type 0 where
+  pub answer : ℕ
+  pub result : List ℕ
+  pub opens : ℕ
+  pub shorts : ℕ
+
+-- "0 stores in *opens_agree .. and in *shorts_agree": by the answer, and the result as the call on the record leaves it, new
+abbrev pub faultsOutcome : faults.Answer → List ℕ → ℕ → ℕ → FaultsOutcome
+faultsOutcome answer new opens shorts = record {
+  answer = getD (answerNumbers answer) 0 0;
+  result = new;
+  opens = getD (answerNumbers answer) 1 opens;
+  shorts = getD (answerNumbers answer) 2 shorts;
 }

@@ -23,7 +23,6 @@ use Rattle.update.specs.declared.Updated.{Updated}
 use Rattle.update.specs.Update.{isListed, listNumber}
 use Rattle.chip.specs.declared.Chip.{Chip}
 use Rattle.chip.specs.Chip.{chipOf}
-use Rattle.faults.specs.Faults.{answered, answerNumbers, faultsChecked, faultsAnswer, faultsResult, opensAgree, shortsAgree}
 use Rattle.capi.specs.Capi.{headerIn, settingsAt, settingsIn, imageAt, imageIn, recordIn, recordBytes, registersAt, chipIn, chipBytes, recordSize, recordSized, chipSize, chipSized, whenSized, settingNumber, settingBytes, chipNumber, chipAfter, listAnswer, listBytes, stored, nAfter, tAfter, neededAfter}
 
 -- ---- the bytes read back
@@ -207,21 +206,3 @@ needed-keeps (Refused x) needed z = refused-stores (refusalNumber BufferShort) 0
 pub bytes-keep : (bytes : List ℕ) (x : Updated) → (listNumber (listAnswer bytes x) ≡ 0 → ⊥) → listBytes bytes x ≡ bytes
 unfolding listBytes
 bytes-keep bytes x z = rw (list-keeps (listAnswer bytes x) z .unlisted) refl
-
--- ---- Faults
-
-module _ (m : ℕ) (bytes result : List ℕ) where
-  -- a refused call of lp586x_faults leaves the result and both answers
-  pub record FaultsKept : Type 0 where
-    pub result-stays : faultsResult m bytes result ≡ result
-    pub opens-stay : (old : ℕ) → getD (answerNumbers (faultsAnswer m bytes result)) 1 old ≡ old
-    pub shorts-stay : (old : ℕ) → getD (answerNumbers (faultsAnswer m bytes result)) 2 old ≡ old
-
-  pub faults-keep : (getD (answerNumbers (faultsAnswer m bytes result)) 0 0 ≡ 0 → ⊥) → FaultsKept
-  unfolding faultsAnswer faultsResult answered answerNumbers
-  faults-keep = go (faultsChecked m (length bytes) (length result)) refl
-    where
-      go : (a : Answer) → faultsChecked m (length bytes) (length result) ≡ a →
-          (getD (answerNumbers (answered a (opensAgree m bytes) (shortsAgree m bytes))) 0 0 ≡ 0 → ⊥) → FaultsKept
-      go answers.the-variants.Accepted e z = absurd (z refl)
-      go (answers.the-variants.Refused x) e z = record { result-stays = rw e refl; opens-stay = λ old. rw e refl; shorts-stay = λ old. rw e refl }

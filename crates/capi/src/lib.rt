@@ -8,13 +8,12 @@ mod records;
 
 ghost use mathlib.Core.Path.{_≡_};
 ghost use mathlib.Core.List.{[]};
-ghost use lib.ListN.{length, getD};
+ghost use lib.ListN.{length};
 ghost use Rattle.map.specs.declared.refusals.Refusal.the-variants.{Unsound};
 ghost use Rattle.map.specs.Refusals.{refusalNumber};
-ghost use Rattle.faults.specs.Faults.{answerNumbers, faultsAnswer, faultsResult};
 ghost use Rattle.host.specs.Record.{recordOf};
 ghost use Rattle.update.specs.Update.{updateAnswer, updateOf, updateBuffer};
-ghost use Rattle.capi.specs.Calls.{openCall, settingCall, settingNumbersCall, powerLostCall, updateCall, updateNeeded, resetCall, clearCall, transactionCall, chipAtResetCall, chipPowerLostCall, chipFeedCall};
+ghost use Rattle.capi.specs.Calls.{openCall, settingCall, settingNumbersCall, powerLostCall, updateCall, updateNeeded, resetCall, clearCall, transactionCall, faultsCall, chipAtResetCall, chipPowerLostCall, chipFeedCall};
 use burst::Place;
 use calls::Setting;
 use host::Header;
@@ -271,18 +270,24 @@ pub extern "C" fn lp586x_transaction(
 
 #[no_mangle]
 pub extern "C" fn lp586x_faults(
-    member: u32,
     bytes: &[u8],
+    given: &[u8],
     result: &mut [u8],
     opens: &mut u32,
     shorts: &mut u32,
 ) -> u32
-    ensures { λ r. ⌜ r ≡ getD (answerNumbers (faultsAnswer member (now (bytes .entry)) (now (result .entry)))) 0 0 ⌝ }
-    ensures { λ _. ⌜ now (result .exit) ≡ faultsResult member (now (bytes .entry)) (now (result .entry)) ⌝ }
-    ensures { λ _. ⌜ now (opens .exit) ≡ getD (answerNumbers (faultsAnswer member (now (bytes .entry)) (now (result .entry)))) 1 (now (opens .entry)) ⌝ }
-    ensures { λ _. ⌜ now (shorts .exit) ≡ getD (answerNumbers (faultsAnswer member (now (bytes .entry)) (now (result .entry)))) 2 (now (shorts .entry)) ⌝ }
+    ensures { λ r. ⌜ r ≡ faultsCall (now (bytes .entry)) (now (given .entry)) (now (result .entry)) (now (opens .entry)) (now (shorts .entry)) .answer ⌝ }
+    ensures { λ _. ⌜ now (result .exit) ≡ faultsCall (now (bytes .entry)) (now (given .entry)) (now (result .entry)) (now (opens .entry)) (now (shorts .entry)) .result ⌝ }
+    ensures { λ _. ⌜ now (opens .exit) ≡ faultsCall (now (bytes .entry)) (now (given .entry)) (now (result .entry)) (now (opens .entry)) (now (shorts .entry)) .opens ⌝ }
+    ensures { λ _. ⌜ now (shorts .exit) ≡ faultsCall (now (bytes .entry)) (now (given .entry)) (now (result .entry)) (now (opens .entry)) (now (shorts .entry)) .shorts ⌝ }
 {
-    let answer = faults::faults(member as usize, bytes, result);
+    if bytes.len() != RECORD_SIZE {
+        return wrong_size();
+    }
+    let header = records::header(bytes);
+    let settings = &bytes[SETTINGS..IMAGE];
+    let image = &bytes[IMAGE..RECORD_SIZE];
+    let answer = faults::faults_parts(header, settings, image, given, result);
     match answer {
         faults::Answer::Read {
             opens_agree,

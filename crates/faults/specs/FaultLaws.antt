@@ -72,7 +72,7 @@ filled-same f g zero xs h = refl
 filled-same f g (suc n) xs h = rw (filled-same f g n xs (λ k u. h k (omega arith)), h (0 + n) (omega (arith, zero-add n))) refl
 
 module _ (r : Record) (bytes result : List ℕ) where
-  -- a refusal leaves every byte
+  -- a refusal leaves every byte of the buffer
   pub refused-keeps : accepted (faultsChecked r (length bytes) (length result)) ≡ false → faultsResult r bytes result ≡ result
   unfolding faultsResult
   refused-keeps e = rw e refl
@@ -101,6 +101,22 @@ module _ (r : Record) (bytes result : List ℕ) where
       go : (b : Bool) → getD (cond b (filled (reading (r .header .member) (r .image) bytes) 0 198 result) result) k 0 ≡ getD result k 0
       go true = filled-out (reading (r .header .member) (r .image) bytes) 0 198 result k (λ l u. omega arith)
       go false = refl
+
+-- a call that is not answered 0 leaves every byte, and answers no more than its number
+module _ (r : Record) (bytes result : List ℕ) where
+  pub record Refuses : Type 0 where
+    pub result-stays : faultsResult r bytes result ≡ result
+    pub no-opens : (old : ℕ) → getD (answerNumbers (faultsAnswer r bytes result)) 1 old ≡ old
+    pub no-shorts : (old : ℕ) → getD (answerNumbers (faultsAnswer r bytes result)) 2 old ≡ old
+
+  pub refuses : (getD (answerNumbers (faultsAnswer r bytes result)) 0 0 ≡ 0 → ⊥) → Refuses
+  unfolding faultsAnswer faultsResult answered answerNumbers
+  refuses = go (faultsChecked r (length bytes) (length result)) refl
+    where
+      go : (a : checks.Answer) → faultsChecked r (length bytes) (length result) ≡ a →
+          (getD (answerNumbers (answered a (opensAgree (r .header .member) bytes) (shortsAgree (r .header .member) bytes))) 0 0 ≡ 0 → ⊥) → Refuses
+      go checks.the-variants.Accepted e z = absurd (z refl)
+      go (checks.the-variants.Refused x) e z = record { result-stays = rw e refl; no-opens = λ old. rw e refl; no-shorts = λ old. rw e refl }
 
 -- ---- the reading of a dot
 

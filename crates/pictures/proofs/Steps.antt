@@ -153,9 +153,9 @@ lamp-is m image l s on top v switch r e ho ht hv hs hr =
 
 -- ---- faults
 
-pub no-reading : (r : ℕ) → 4 < r → 0x3F ≡ readingChar r
+pub no-reading : (r : ℕ) → 5 < r → 0x3F ≡ readingChar r
 unfolding readingChar
-no-reading r h = sym (List·getD-eq-default (0x2E ∷ 0x6F ∷ 0x73 ∷ 0x62 ∷ 0x20 ∷ []) 0x3F h)
+no-reading r h = sym (List·getD-eq-default (0x2E ∷ 0x6F ∷ 0x73 ∷ 0x62 ∷ 0x20 ∷ 0x2D ∷ []) 0x3F h)
 
 pub fault-is : (readings : List ℕ) (l s reading r : ℕ) → reading ≡ getD readings (18 * l + s) 4 → r ≡ readingChar reading → r ≡ faultChar readings l s
 unfolding faultChar

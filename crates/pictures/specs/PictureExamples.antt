@@ -40,8 +40,9 @@ none = refl
 
 -- ---- Faults
 
--- sound, open, short, both, no such dot, a number that is no reading; readings that are not there count as 4: `.osb ?`, then spaces
-faulty : faultsText 1 (0 ∷ 1 ∷ 2 ∷ 3 ∷ 4 ∷ 5 ∷ []) ≡ (0x2E ∷ 0x6F ∷ 0x73 ∷ 0x62 ∷ 0x20 ∷ 0x3F ∷ []) ++ replicate 12 0x20
+-- sound, open, short, both, no such dot, untested, a number that is no reading; readings that are not there count as 4: `.osb -?`, then
+-- spaces
+faulty : faultsText 1 (0 ∷ 1 ∷ 2 ∷ 3 ∷ 4 ∷ 5 ∷ 6 ∷ []) ≡ (0x2E ∷ 0x6F ∷ 0x73 ∷ 0x62 ∷ 0x20 ∷ 0x2D ∷ 0x3F ∷ []) ++ replicate 11 0x20
 unfolding faultsText pictureText rowText linesText eachText table tableFrom linesOf faultChar readingChar
 faulty = refl
 

@@ -60,9 +60,9 @@ lampsText m image = pictureText m (lampChar m image)
 
 -- ---- Faults
 
--- 0 `.`, 1 `o`, 2 `s`, 3 `b`, 4 ` ` (no such dot), any other `?`
+-- 0 `.`, 1 `o`, 2 `s`, 3 `b`, 4 ` ` (no such dot), 5 `-` (untested), any other `?`
 unfoldable pub readingChar : ℕ → ℕ
-readingChar reading = getD (0x2E ∷ 0x6F ∷ 0x73 ∷ 0x62 ∷ 0x20 ∷ []) reading 0x3F
+readingChar reading = getD (0x2E ∷ 0x6F ∷ 0x73 ∷ 0x62 ∷ 0x20 ∷ 0x2D ∷ []) reading 0x3F
 
 -- a reading stands at its dot's number; one that is not there counts as 4
 unfoldable pub faultChar : List ℕ → ℕ → ℕ → ℕ

@@ -1,5 +1,5 @@
-// The readings of Faults: `.` sound, `o` open, `s` short, `b` both, ` ` where the member has no such dot, `?` for a number that is no
-// reading.
+// The readings of Faults: `.` sound, `o` open, `s` short, `b` both, ` ` where the member has no such dot, `-` untested, `?` for a number that
+// is no reading.
 ghost use mathlib.Core.Path.{_≡_};
 ghost use Prim.Native.Nat.{_<_};
 ghost use Rattle.text.specs.Text.{Puts};
@@ -15,6 +15,7 @@ fn reading_char(reading: u8) -> u8
         2 => b's',
         3 => b'b',
         4 => b' ',
+        5 => b'-',
         _ => b'?',
     }
 }

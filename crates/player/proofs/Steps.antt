@@ -14,6 +14,7 @@ use Rattle.map.specs.declared.refusals.Refusal.{Refusal}
 use Rattle.map.specs.Refusals.{refusalNumber}
 use Rattle.faults.specs.declared.Answer as faults
 use Rattle.faults.specs.Faults.{faultsAnswer, faultsResult}
+use Rattle.host.specs.declared.Record.{Record}
 use Rattle.text.specs.Text.{Puts, placed, placeAfter, decimalText}
 use Rattle.text.specs.TextLaws.{puts-then, puts-as}
 use Rattle.script.specs.declared.command.Command.{Command}
@@ -148,15 +149,15 @@ module _ (bus : ℕ) (list : List ℕ) (k : ℕ) where
   list-shown z h l = rw (lt-ltb 0 k (omega arith), le-leb k 1174 h, le-leb k (length list) l) refl
 
 -- Faults with room for 198 readings
-module _ (m : ℕ) (bytes given readings : List ℕ) (answer : faults.Answer) (eg : given ≡ bytes) (ea : answer ≡ faultsAnswer m given (replicate 198 0))
-    (er : readings ≡ faultsResult m given (replicate 198 0)) where
-  pub map-read : (o s : Bool) → answer ≡ faults.the-variants.Read o s → faultsText m readings ≡ faultMapText m bytes
+module _ (r : Record) (bytes given readings : List ℕ) (answer : faults.Answer) (eg : given ≡ bytes) (ea : answer ≡ faultsAnswer r given (replicate 198 0))
+    (er : readings ≡ faultsResult r given (replicate 198 0)) where
+  pub map-read : (o s : Bool) → answer ≡ faults.the-variants.Read o s → faultsText (r .header .member) readings ≡ faultMapText r bytes
   unfolding faultMapText readingsAnswer faultMapBy
   map-read o s e = rw (← eg, ← ea, ← er, e) refl
 
-  pub map-refused : (r : Refusal) → answer ≡ faults.the-variants.Refused r → decimalText (refusalNumber r) ≡ faultMapText m bytes
+  pub map-refused : (x : Refusal) → answer ≡ faults.the-variants.Refused x → decimalText (refusalNumber x) ≡ faultMapText r bytes
   unfolding faultMapText readingsAnswer faultMapBy
-  map-refused r e = rw (← eg, ← ea, ← er, e) refl
+  map-refused x e = rw (← eg, ← ea, ← er, e) refl
 
 -- ---- a line
 

@@ -9,6 +9,7 @@ use Rattle.map.specs.declared.refusals.Numbers as numbers
 use Rattle.map.specs.Refusals.{refusalNumber}
 use Rattle.faults.specs.declared.Answer as faults
 use Rattle.faults.specs.Faults.{faultsAnswer, faultsResult}
+use Rattle.host.specs.declared.Record.{Record}
 use Rattle.history.specs.declared.World.{World}
 use Rattle.text.specs.Text.{placed, placeAfter, decimalText}
 use Rattle.script.specs.declared.command.Command.{Command}
@@ -78,7 +79,7 @@ writesList (commands.Open m b p) = false
 writesList (commands.Call q lent) = isRoom lent
 writesList (commands.Clear n) = true
 writesList (commands.Feed k) = false
-writesList (commands.Faults m k n) = false
+writesList (commands.Faults k n) = false
 writesList (commands.Show part) = false
 writesList (commands.Poke part a v) = false
 writesList (commands.Header e v) = false
@@ -128,18 +129,18 @@ lampsOf w Settings = lampsText (w .host .header .member) (w .host .settings)
 lampsOf w Image = lampsText (w .host .header .member) (w .host .image)
 lampsOf w Chip = lampsText (w .chip .member) (w .chip .registers)
 
--- Faults of the member with these bytes, and room for 198 readings
-unfoldable pub readingsAnswer : ℕ → List ℕ → faults.Answer
-readingsAnswer m bytes = faultsAnswer m bytes (replicate 198 0)
+-- Faults of the record r with these bytes, and room for 198 readings
+unfoldable pub readingsAnswer : Record → List ℕ → faults.Answer
+readingsAnswer r bytes = faultsAnswer r bytes (replicate 198 0)
 
 -- "`faultmap BYTES` draws the readings of Faults the same way", or prints the number of its refusal
 unfoldable pub faultMapBy : ℕ → faults.Answer → List ℕ → List ℕ
 faultMapBy m (faults.the-variants.Read o s) readings = faultsText m readings
 faultMapBy m (faults.the-variants.Refused r) readings = decimalText (refusalNumber r)
 
--- of the member's 198 readings with these bytes
-unfoldable pub faultMapText : ℕ → List ℕ → List ℕ
-faultMapText m bytes = faultMapBy m (readingsAnswer m bytes) (faultsResult m bytes (replicate 198 0))
+-- of the record's 198 readings with these bytes
+unfoldable pub faultMapText : Record → List ℕ → List ℕ
+faultMapText r bytes = faultMapBy (r .header .member) (readingsAnswer r bytes) (faultsResult r bytes (replicate 198 0))
 
 -- "`diff` lists every writable register in which the chip and the ledger differ", and prints `?` where the ledger is void
 unfoldable pub differencesOf : Session → List ℕ
@@ -154,7 +155,7 @@ unfoldable pub asideLine : Player → asides.Aside → List ℕ → List ℕ
 asideLine p Silent l = []
 asideLine p (Echo on) l = 0x30 ∷ 0x0A ∷ []
 asideLine p (Lamps part) l = lampsOf (p .session .world) part ++ (0x0A ∷ [])
-asideLine p (FaultMap k) l = faultMapText (p .session .world .host .header .member) (bytesOf (wordAt l k)) ++ (0x0A ∷ [])
+asideLine p (FaultMap k) l = faultMapText (p .session .world .host) (bytesOf (wordAt l k)) ++ (0x0A ∷ [])
 asideLine p Diff l = differencesOf (p .session) ++ (0x0A ∷ [])
 asideLine p LastList l = lastListText (p .bus) (p .list) (p .listed) ++ (0x0A ∷ [])
 

@@ -87,9 +87,8 @@ aside-most p Silent l = omega arith
 aside-most p (Echo on) l = omega arith
 aside-most p (Lamps part) l = omega (arith, length-append (lampsOf (p .session .world) part) (0x0A ∷ []), lamps-of (p .session .world) part)
 aside-most p (FaultMap k) l =
-    let m : ℕ = p .session .world .host .header .member in
-    let text : List ℕ = faultMapText m (bytesOf (wordAt l k)) in
-    let most : length text ≤ 208 = fault-map m _ _ in
+    let text : List ℕ = faultMapText (p .session .world .host) (bytesOf (wordAt l k)) in
+    let most : length text ≤ 208 = fault-map (p .session .world .host .header .member) _ _ in
     omega (arith, length-append text (0x0A ∷ []), most)
 aside-most p Diff l = omega (arith, length-append (differencesOf (p .session)) (0x0A ∷ []), differences-of (p .session))
 aside-most p LastList l = omega (arith, length-append (lastListText (p .bus) (p .list) (p .listed)) (0x0A ∷ []), last-list (p .bus) (p .list) (p .listed))

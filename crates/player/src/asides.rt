@@ -11,6 +11,7 @@ use crate::LIST;
 use crate::Player;
 use faults::Answer;
 use history::World;
+use host::Record;
 use script::Aside;
 use script::Part;
 use session::Session;
@@ -58,18 +59,18 @@ fn put_lamps(world: World, part: Part, text: &mut [u8], at: usize) -> usize
 }
 
 // `faultmap BYTES`
-fn put_fault_map(member: usize, line: &[u8], word: usize, text: &mut [u8], at: usize) -> usize
+fn put_fault_map(host: Record, line: &[u8], word: usize, text: &mut [u8], at: usize) -> usize
     requires { ⌜ length (now line) ≤ 8192 ⌝ }
-    ensures { λ r. ⌜ Puts (now (text .entry)) at (faultMapText member (bytesOf (wordAt (now (line .entry)) word))) (now (text .exit)) r ⌝ }
+    ensures { λ r. ⌜ Puts (now (text .entry)) at (faultMapText host (bytesOf (wordAt (now (line .entry)) word))) (now (text .exit)) r ⌝ }
 {
     let mut given = io::buffer();
     let n = session::decode(line, word, &mut given);
     let mut readings = [0u8; 198];
-    match faults::faults(member, &given[..n], &mut readings) {
+    match faults::faults(host, &given[..n], &mut readings) {
         Answer::Read {
             opens_agree: _,
             shorts_agree: _,
-        } => pictures::put_faults(text, at, member, &readings),
+        } => pictures::put_faults(text, at, host.header.member as usize, &readings),
         Answer::Refused(refusal) => text::put_decimal(
             text,
             at,
@@ -125,8 +126,7 @@ pub(crate) fn put(player: Player, aside: Aside, line: &[u8], text: &mut [u8], at
             text::put(text, next, b'\n')
         }
         Aside::FaultMap(word) => {
-            let member = player.session.world.host.header.member as usize;
-            let next = put_fault_map(member, line, word, text, at);
+            let next = put_fault_map(player.session.world.host, line, word, text, at);
             text::put(text, next, b'\n')
         }
         Aside::Diff => {

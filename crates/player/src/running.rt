@@ -34,7 +34,7 @@ fn writes_list(command: Command) -> bool
         Command::Call(_, lent) => is_room(lent),
         Command::Clear(_) => true,
         Command::Feed(_) => false,
-        Command::Faults(_, _, _) => false,
+        Command::Faults(_, _) => false,
         Command::Show(_) => false,
         Command::Poke(_, _, _) => false,
         Command::Header(_, _) => false,

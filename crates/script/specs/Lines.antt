@@ -133,7 +133,7 @@ lines =
     ∷ row "power" [] (λ x y z. Run (Call PowerLost Nothing))
     ∷ row "clear" (room ∷ []) (λ n y z. Run (Clear n))
     ∷ row "feed" (bytes ∷ []) (λ x y z. Run (Feed 1))
-    ∷ row "faults" (decimal ∷ bytes ∷ room ∷ []) (λ m y n. Run (Faults m 2 n))
+    ∷ row "faults" (bytes ∷ room ∷ []) (λ x n z. Run (Faults 1 n))
     ∷ row "settings" [] (λ x y z. Run (Show Settings))
     ∷ row "image" [] (λ x y z. Run (Show Image))
     ∷ row "chip" [] (λ x y z. Run (Show Chip))

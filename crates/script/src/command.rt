@@ -48,8 +48,8 @@ pub enum Command {
     Clear(usize),
     // the byte string that is this word of the line
     Feed(usize),
-    // a member, the word that is the byte string, and the length of the result buffer
-    Faults(usize, usize, usize),
+    // the word that is the byte string, and the length of the result buffer
+    Faults(usize, usize),
     Show(Part),
     // at an address, a value
     Poke(Part, usize, usize),

@@ -102,7 +102,7 @@ const LINES: [u8; 16 * ROWS] = *b"\
     power           \
     clear r         \
     feed s          \
-    faults dsr      \
+    faults sr       \
     settings        \
     image           \
     chip            \
@@ -166,7 +166,7 @@ fn other(place: usize, first: usize, second: usize, third: usize) -> Line
         4 => Line::Run(Command::Call(Request::PowerLost, Lent::Nothing)),
         5 => Line::Run(Command::Clear(first)),
         6 => Line::Run(Command::Feed(1)),
-        7 => Line::Run(Command::Faults(first, 2, third)),
+        7 => Line::Run(Command::Faults(1, second)),
         8 => Line::Run(Command::Show(Part::Settings)),
         9 => Line::Run(Command::Show(Part::Image)),
         10 => Line::Run(Command::Show(Part::Chip)),

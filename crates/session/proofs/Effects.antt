@@ -98,11 +98,11 @@ module _ (n : ℕ) (part old : List ℕ) (h : n ≤ 4096) (o : length old ≡ 40
   clear-does s x y r ex d = rw (← ex) (front-does (λ b. stepEffect s (Room n) (leaving x b)) r d)
 
   -- the bytes w of the word are the given ones
-  pub faults-does : (s : Session) (m : ℕ) (given w : List ℕ) (answer : faults.Answer) (ns : numbers.Numbers) (r : Outcome) → given ≡ w →
-      answer ≡ faultsAnswer m given (take n old) → part ≡ faultsResult m given (take n old) → ns ≡ numbersOf (answerNumbers answer) →
-      ((b : List ℕ) → n ≤ length b → Does r b (answered (Room n) ns (take n b) s)) → Does r new (faultsEffect s m w (take n old))
+  pub faults-does : (s : Session) (given w : List ℕ) (answer : faults.Answer) (ns : numbers.Numbers) (r : Outcome) → given ≡ w →
+      answer ≡ faultsAnswer (s .world .host) given (take n old) → part ≡ faultsResult (s .world .host) given (take n old) → ns ≡ numbersOf (answerNumbers answer) →
+      ((b : List ℕ) → n ≤ length b → Does r b (answered (Room n) ns (take n b) s)) → Does r new (faultsEffect s w (take n old))
   unfolding answered faultsEffect
-  faults-does s m given w answer ns r eg ea er en d = rw (← eg, ← ea, ← er, ← en) (front-does (λ b. answered (Room n) ns b s) r d)
+  faults-does s given w answer ns r eg ea er en d = rw (← eg, ← ea, ← er, ← en) (front-does (λ b. answered (Room n) ns b s) r d)
 
 -- ---- `settings`, `image`, `chip`
 

@@ -129,10 +129,13 @@ feedEffect s bytes =
     numbered (feedOf (s .world .chip) bytes .answer)
     (withWorld s (record { host = s .world .host; chip = feedOf (s .world .chip) bytes .chip }))
 
--- "member, input bytes, result buffer of L bytes"
-unfoldable pub faultsEffect : Session → ℕ → List ℕ → List ℕ → Effect
-faultsEffect s m bytes result =
-    record { reply = Lent (numbersOf (answerNumbers (faultsAnswer m bytes result))); shown = faultsResult m bytes result; session = s }
+-- "input bytes, result buffer of L bytes": Faults of the script's record, which it only reads
+unfoldable pub faultsEffect : Session → List ℕ → List ℕ → Effect
+faultsEffect s bytes result = record {
+  reply = Lent (numbersOf (answerNumbers (faultsAnswer (s .world .host) bytes result)));
+  shown = faultsResult (s .world .host) bytes result;
+  session = s;
+}
 
 -- ---- `settings`, `image`, `chip`
 
@@ -199,7 +202,7 @@ effectOf s (commands.Open m bus p) l b = openEffect s m bus p
 effectOf s (commands.Call q lent) l b = callEffect s q lent (lentOf lent l b)
 effectOf s (commands.Clear n) l b = stepEffect s (Room n) (clearStep (s .world) (take n b))
 effectOf s (commands.Feed k) l b = feedEffect s (bytesOf (wordAt l k))
-effectOf s (commands.Faults m k n) l b = faultsEffect s m (bytesOf (wordAt l k)) (take n b)
+effectOf s (commands.Faults k n) l b = faultsEffect s (bytesOf (wordAt l k)) (take n b)
 effectOf s (commands.Show p) l b = shownBytes s (partBytes (s .world) p)
 effectOf s (commands.Poke p a v) l b = behindBack s (poked (s .world) p a v)
 effectOf s (commands.Header e v) l b = behindBack s (withEntry (s .world) e v)

@@ -95,18 +95,17 @@ pub(crate) fn feed(mut session: Session, line: &[u8], word: usize, buffer: &mut 
 // The byte string goes to a buffer of its own, the result to the one that is shown.
 pub(crate) fn faults(
     session: Session,
-    member: usize,
     line: &[u8],
     word: usize,
     room: usize,
     buffer: &mut [u8],
 ) -> Outcome
     requires { ⌜ (length (now line) ≤ 8192) × (room ≤ 4096) × (length (now buffer) ≡ 4096) ⌝ }
-    ensures { λ r. ⌜ Does r (now (buffer .exit)) (faultsEffect session member (bytesOf (wordAt (now (line .entry)) word)) (take room (now (buffer .entry)))) ⌝ }
+    ensures { λ r. ⌜ Does r (now (buffer .exit)) (faultsEffect session (bytesOf (wordAt (now (line .entry)) word)) (take room (now (buffer .entry)))) ⌝ }
 {
     let mut given = io::buffer();
     let n = decode(line, word, &mut given);
-    let answer = faults::faults(member, &given[..n], &mut buffer[..room]);
+    let answer = faults::faults(session.world.host, &given[..n], &mut buffer[..room]);
     answered(
         Lent::Room(room),
         faults::answer_numbers(answer),

@@ -1,14 +1,46 @@
 -- `capi::lp586x_faults` meets its contract.
 -- Assumes nothing.
-use mathlib.Core.Path.{refl, sym, _∙_}
+use mathlib.Core.Path.{refl, _∙_}
 use borrow.Author.Needs.{needs}
-use Rattle.capi.proofs.InPlace.{bool-number}
 use Rattle.faults.specs.Faults.{answerNumbers}
+use Rattle.capi.specs.Capi.{bufferAfter, faultsAnswerBy}
+use Rattle.capi.specs.CapiLaws.{record-unsized}
+use Rattle.capi.proofs.InPlace.{bool-number, faults-answer, faults-result}
 use Rattle.capi.proofs.lp586x_faults.Statement.{statement}
 use Rattle.capi.proofs.lp586x_faults.Tie as tie
 
-faults-requires : tie.Need-faults-requires
-faults-requires c κs = search needs
+wrong-size-requires : tie.Need-wrong-size-requires
+wrong-size-requires c κs = search needs
+
+returns : tie.Need-returns
+unfolding faultsAnswerBy bufferAfter answerNumbers
+returns c =
+    rw (record-unsized (c .before .before .before .before .before .args .bytes .now) (c .before .if1 .taken))
+    (c .wrong-size .ensures, (refl, (refl, refl)))
+
+header-requires : tie.Need-header-requires
+header-requires c κs = search needs
+
+sub-settings : tie.Need-sub-settings
+sub-settings c = search needs
+
+part-settings-start : tie.Need-part-settings-start
+part-settings-start c = search needs
+
+part-settings-end : tie.Need-part-settings-end
+part-settings-end c = search needs
+
+sub-image : tie.Need-sub-image
+sub-image c = search needs
+
+part-image-start : tie.Need-part-image-start
+part-image-start c = search needs
+
+part-image-end : tie.Need-part-image-end
+part-image-end c = search needs
+
+faults-parts-requires : tie.Need-faults-parts-requires
+faults-parts-requires c κs = search needs
 
 enum-known-answer : tie.Need-enum-known-answer
 enum-known-answer c = search needs
@@ -31,27 +63,53 @@ cast-result c = search needs
 same-length : tie.Need-same-length
 same-length c = search needs
 
-returns : tie.Need-returns
+returns-2 : tie.Need-returns-2
 unfolding answerNumbers
-returns c =
-    let made = c .before .before .before .before .before in
-    rw (sym (made .faults .ensures .0) ∙ c .before .answer .given .1)
-    (refl, (made .faults .ensures .1, (bool-number (c .before .answer .given .0 .0), bool-number (c .before .answer .given .0 .1 .0))))
+returns-2 c =
+    let read = c .before .before .before .before .before in
+    let headed = read .before .before .before .before in
+    let begun = headed .before .before .before .before .before in
+    let bytes = begun .args .bytes .now in
+    let given = begun .args .given .now in
+    let result = begun .args .result .now in
+    let sized = headed .before .if1 .left in
+    let made = read .faults-parts .ensures in
+    rw (faults-answer bytes sized _ (headed .header .ensures) given result _ (made .0) ∙ c .before .answer .given .1)
+    (refl,
+    (faults-result bytes sized _ (headed .header .ensures) given result _ (made .1),
+    (bool-number (c .before .answer .given .0 .0), bool-number (c .before .answer .given .0 .1 .0))))
 
 same-length-2 : tie.Need-same-length-2
 same-length-2 c = search needs
 
-returns-2 : tie.Need-returns-2
+returns-3 : tie.Need-returns-3
 unfolding answerNumbers
-returns-2 c =
-    let made = c .before .before .before .before .before .before in
-    rw (sym (made .faults .ensures .0) ∙ c .before .before .answer2 .given .1) (c .refusal-number .ensures, (made .faults .ensures .1, (refl, refl)))
+returns-3 c =
+    let read = c .before .before .before .before .before .before in
+    let headed = read .before .before .before .before in
+    let begun = headed .before .before .before .before .before in
+    let bytes = begun .args .bytes .now in
+    let given = begun .args .given .now in
+    let result = begun .args .result .now in
+    let sized = headed .before .if1 .left in
+    let made = read .faults-parts .ensures in
+    rw (faults-answer bytes sized _ (headed .header .ensures) given result _ (made .0) ∙ c .before .before .answer2 .given .1)
+    (c .refusal-number .ensures, (faults-result bytes sized _ (headed .header .ensures) given result _ (made .1), (refl, refl)))
 
 pub lp586x-faults-spec : {M : Type 1} → statement M
 lp586x-faults-spec =
     tie.close
     (tie.spec
-    faults-requires
+    wrong-size-requires
+    returns
+    header-requires
+    sub-settings
+    part-settings-start
+    part-settings-end
+    sub-image
+    part-image-start
+    part-image-end
+    faults-parts-requires
     enum-known-answer
     cast-opens
     cast-shorts
@@ -59,6 +117,6 @@ lp586x-faults-spec =
     refusal-number-requires
     cast-result
     same-length
-    returns
+    returns-2
     same-length-2
-    returns-2)
+    returns-3)

@@ -27,7 +27,13 @@ unfolding readingChar
 returns-5 c = rw (c .match .keys5)
 
 returns-6 : tie.Need-returns-6
-returns-6 c = no-reading _ (omega (arith, c .match .rest .0 .0 .0 .0, c .match .rest .0 .0 .0 .1, c .match .rest .0 .0 .1, c .match .rest .0 .1, c .match .rest .1))
+unfolding readingChar
+returns-6 c = rw (c .match .keys6)
+
+returns-7 : tie.Need-returns-7
+returns-7 c =
+    no-reading _
+    (omega (arith, c .match .rest .0 .0 .0 .0 .0, c .match .rest .0 .0 .0 .0 .1, c .match .rest .0 .0 .0 .1, c .match .rest .0 .0 .1, c .match .rest .0 .1, c .match .rest .1))
 
 pub reading-char-spec : {M : Type 1} → statement M
-reading-char-spec = tie.close (tie.spec returns returns-2 returns-3 returns-4 returns-5 returns-6)
+reading-char-spec = tie.close (tie.spec returns returns-2 returns-3 returns-4 returns-5 returns-6 returns-7)
