@@ -33,12 +33,9 @@ put-requires c κs = search needs
 enum-known-aside-2 : tie.Need-enum-known-aside-2
 enum-known-aside-2 c = search needs
 
-cast-member : tie.Need-cast-member
-cast-member c = search needs
-
 put-fault-map-requires : tie.Need-put-fault-map-requires
 unfolding AsideFits
-put-fault-map-requires c κs = rw (c .before .before .aside2 .given .1) at (c .before .before .before .before .before .before .pre)
+put-fault-map-requires c κs = rw (c .before .before .before .aside2 .given .1) at (c .before .before .before .before .before .before .before .pre)
 
 put-requires-2 : tie.Need-put-requires-2
 put-requires-2 c κs = search needs
@@ -91,7 +88,7 @@ unfolding asideLine
 returns-4 c =
     let ended = c .before .before in
     let drawn = ended .before .before .before .before in
-    let told = drawn .before .before .before in
+    let told = drawn .before .before .before .before in
     rw (told .aside2 .given .1) (puts-then _ _ _ _ _ _ _ _ (drawn .put-fault-map .ensures) (ended .put2 .ensures))
 
 same-length-4 : tie.Need-same-length-4
@@ -128,7 +125,6 @@ put-spec =
     put-lamps-requires
     put-requires
     enum-known-aside-2
-    cast-member
     put-fault-map-requires
     put-requires-2
     enum-told-3

@@ -33,6 +33,9 @@ faults-requires c κs = search needs
 enum-told : tie.Need-enum-told
 enum-told c = search needs
 
+cast-put-faults : tie.Need-cast-put-faults
+cast-put-faults c = search needs
+
 slice-aggregate-put-faults : tie.Need-slice-aggregate-put-faults
 slice-aggregate-put-faults c = search needs
 
@@ -57,7 +60,7 @@ same-length c = search needs
 returns : tie.Need-returns
 returns c =
     let put = c .before .before in
-    let told = put .before .before .before in
+    let told = put .before .before .before .before in
     let read = told .before .before .before in
     let decoded = read .before .before .before .before in
     puts-as _ _ _ _ _ _ (map-read _ _ _ _ _ (decoded .decode .ensures .1) (read .faults .ensures .0) (read .faults .ensures .1) _ _ (told .enum-told .given .1))
@@ -88,6 +91,7 @@ put-fault-map-spec =
     slice-aggregate-faults-2
     faults-requires
     enum-told
+    cast-put-faults
     slice-aggregate-put-faults
     put-faults-requires
     enum-known-refusal

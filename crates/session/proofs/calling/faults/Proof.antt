@@ -46,7 +46,7 @@ returns c =
     let read = c .before .before .before .before in
     let decoded = read .before .before .before .before in
     let given = decoded .before .before .before .before .before in
-    faults-does _ _ _ (given .pre .1) (given .pre .2) (read .faults .kept .1 .1 .0) _ _ _ _ _ _ _
+    faults-does _ _ _ (given .pre .1) (given .pre .2) (read .faults .kept .1 .1 .0) _ _ _ _ _ _
     (decoded .decode .ensures .1) (read .faults .ensures .0) (read .faults .ensures .1) (c .before .answer-numbers .ensures) (c .answered .ensures)
 
 pub faults-spec : {M : Type 1} → statement M
