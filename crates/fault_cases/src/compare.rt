@@ -1,9 +1,10 @@
-// One example: Faults is called, and what it answers and stores is compared with what is expected.
+// One example: Faults is called on a record, and what it answers and stores is compared with what is expected.
 ghost use Prim.Native.Nat.{_≤_};
 use crate::report;
 use crate::tally;
 use crate::tally::Tally;
 use faults::Answer;
+use host::Record;
 
 // What stands in the whole buffer before a call.
 const BEFORE: u8 = 0xEE;
@@ -73,12 +74,18 @@ fn byte_at(result: [u8; 200], at: usize) -> u8 {
     if at < 200 { result[at] } else { BEFORE }
 }
 
-// Dots and their readings: a number and a reading, and so on.
-fn same_dots(result: [u8; 200], dots: &[u8]) -> bool {
+// The reading that is expected where the example has this one: `clear` where it has 0.
+fn expected(reading: u8, clear: u8) -> u8 {
+    if reading == 0 { clear } else { reading }
+}
+
+// Dots and their readings: a number and a reading, and so on. `clear` stands for 0.
+fn same_dots(result: [u8; 200], dots: &[u8], clear: u8) -> bool {
     let mut all = true;
     for i in 0..dots.len() / 2 {
         let dot = wide(dots[2 * i]);
-        if !same_at(b"dot ", dot, byte_at(result, dot), dots[2 * i + 1]) {
+        let reading = expected(dots[2 * i + 1], clear);
+        if !same_at(b"dot ", dot, byte_at(result, dot), reading) {
             all = false;
         }
     }
@@ -96,9 +103,9 @@ fn count(result: [u8; 200], reading: u8) -> u8 {
     count
 }
 
-fn same_counts(result: [u8; 200], counts: [u8; 5]) -> bool {
+fn same_counts(result: [u8; 200], counts: [u8; 6]) -> bool {
     let mut all = true;
-    for reading in 0..5 {
+    for reading in 0..6 {
         if !same_at(
             b"count of ",
             reading,
@@ -122,23 +129,24 @@ fn same_behind(result: [u8; 200], from: usize) -> bool {
     all
 }
 
-// The member's readings where the fault bytes have the named values: of some dots, and the count of each reading.
+// The rest of an example's line, behind its name: the record's readings where the fault bytes have the named values, of some dots, and the
+// count of each reading. A lamp with clear bits reads `clear` where the example has 0.
 pub fn reads(
     tally: Tally,
-    name: &[u8],
-    member: usize,
+    record: Record,
     named: &[u8],
     dots: &[u8],
-    counts: [u8; 5],
+    clear: u8,
+    counts: [u8; 6],
     opens: bool,
     shorts: bool,
 ) -> Tally {
     let bytes = fault_bytes(named);
     let mut result = [BEFORE; 200];
-    report::begin(name);
-    let answer = faults::faults(member, &bytes, &mut result);
+    report::found();
+    let answer = faults::faults(record, &bytes, &mut result);
     let first = same_answer(answer, opens, shorts);
-    let second = same_dots(result, dots);
+    let second = same_dots(result, dots, clear);
     let third = same_counts(result, counts);
     let fourth = same_behind(result, DOTS);
     let all = first && second && third && fourth;
@@ -146,12 +154,12 @@ pub fn reads(
     tally::example(tally, all)
 }
 
-// The number of the answer for so many fault bytes, all FFh, and so much room; 0 stands for no refusal. A refusal leaves the
-// whole buffer, and the bytes behind the readings stay in any case.
+// The number of the answer for a record with so many fault bytes, all FFh, and so much room; 0 stands for no refusal. A refusal leaves
+// the whole buffer, and the bytes behind the readings stay in any case.
 pub fn answers(
     tally: Tally,
     name: &[u8],
-    member: usize,
+    record: Record,
     given: usize,
     room: usize,
     number: u8,
@@ -161,7 +169,8 @@ pub fn answers(
     let bytes = [0xFFu8; 68];
     let mut result = [BEFORE; 200];
     report::begin(name);
-    let answer = faults::faults(member, &bytes[0..given], &mut result[0..room]);
+    report::found();
+    let answer = faults::faults(record, &bytes[0..given], &mut result[0..room]);
     let first = same(b"answer ", faults::answer_number(answer), number);
     let second = same_behind(result, if number == 0 { DOTS } else { 0 });
     let all = first && second;

@@ -1,6 +1,6 @@
-// The examples of each member: fault bytes by address, some dots with their readings, how many dots read 0, 1, 2, 3 and 4, and
-// whether 064h agrees for opens and for shorts.
-use crate::compare::reads;
+// The examples of each member: fault bytes by address, some dots with their readings, how many dots read 0, 1, 2, 3 and 4, all of bright
+// lamps, and whether 064h agrees for opens and for shorts.
+use crate::lights::reads;
 use crate::tally::Tally;
 
 pub fn lp5860(tally: Tally) -> Tally {

@@ -11,8 +11,19 @@ fn say_decimal(text: &[u8], value: u64) {
     io::print_decimal(STDOUT_FILENO, value);
 }
 
+// The beginning of an example's line.
 pub fn begin(name: &[u8]) {
     say(name);
+}
+
+// What the lamps of its record are lit with.
+pub fn light(mode: u8, level: usize) {
+    say_decimal(b", data mode ", mode as u64);
+    say_decimal(b", level ", level as u64);
+}
+
+// What is found stands behind it.
+pub fn found() {
     say(b":");
 }
 

@@ -301,7 +301,8 @@ module _ (r : Record) (bytes result : List ℕ) (check : checks.Answer) (e : che
       answer ≡ Read (Bool·beq (bitSet (getD bytes 0 0) 1) (ltb 0 opens)) (Bool·beq (bitSet (getD bytes 0 0) 0) (ltb 0 shorts)) →
       (answer ≡ faultsAnswer r bytes result) × (new ≡ faultsResult r bytes result)
   unfolding faultsAnswer faultsResult answered opensAgree shortsAgree faultByte
-  read-is read new opens shorts answer a er en eo es ea =
-      (ea ∙ rw (eo, es, sym e ∙ a) refl,
-      en ∙ ap (λ (l : List ℕ). filled (testedAt (r .image) l) 0 198 l) er
-      ∙ both-passes r bytes result (check-passed r _ _ check e a .result) ∙ rw (sym e ∙ a) refl)
+  read-is read new opens shorts answer a er en eo es ea = (
+    ea ∙ rw (eo, es, sym e ∙ a) refl,
+    en ∙ ap (λ (l : List ℕ). filled (testedAt (r .image) l) 0 198 l) er
+        ∙ both-passes r bytes result (check-passed r _ _ check e a .result) ∙ rw (sym e ∙ a) refl,
+  )

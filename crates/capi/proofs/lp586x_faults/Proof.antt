@@ -74,10 +74,13 @@ returns-2 c =
     let result = begun .args .result .now in
     let sized = headed .before .if1 .left in
     let made = read .faults-parts .ensures in
-    rw (faults-answer bytes sized _ (headed .header .ensures) given result _ (made .0) ∙ c .before .answer .given .1)
-    (refl,
-    (faults-result bytes sized _ (headed .header .ensures) given result _ (made .1),
-    (bool-number (c .before .answer .given .0 .0), bool-number (c .before .answer .given .0 .1 .0))))
+    rw (faults-answer bytes sized _ (headed .header .ensures) given result _ (made .0) ∙ c .before .answer .given .1) (
+      refl,
+      (
+        faults-result bytes sized _ (headed .header .ensures) given result _ (made .1),
+        (bool-number (c .before .answer .given .0 .0), bool-number (c .before .answer .given .0 .1 .0)),
+      ),
+    )
 
 same-length-2 : tie.Need-same-length-2
 same-length-2 c = search needs

@@ -29,9 +29,10 @@ wide-requires c κs = search needs
 mark-requires : tie.Need-mark-requires
 mark-requires c κs =
     let all = c .before .before .before .before in
-    let told = all .before .before .before in
-    (c .before .wide .ensures,
-    read-room _ _ _ (all .read-all .ensures .0) (check-passed _ _ _ _ (told .before .before .checked .ensures) (told .enum-told .given .1) .result))
+    let told = all .before .before .before in (
+      c .before .wide .ensures,
+      read-room _ _ _ (all .read-all .ensures .0) (check-passed _ _ _ _ (told .before .before .checked .ensures) (told .enum-told .given .1) .result),
+    )
 
 shared-slice-read-read : tie.Need-shared-slice-read-read
 shared-slice-read-read c =

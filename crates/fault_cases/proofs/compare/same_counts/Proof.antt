@@ -6,10 +6,10 @@ use Rattle.fault_cases.proofs.compare.same_counts.Statement.{statement}
 use Rattle.fault_cases.proofs.compare.same_counts.Tie as tie
 
 abbrev Inv-loop : tie.InvT-loop
-Inv-loop result counts all₀ reading₀ t6 all reading = reading ≤ 5
+Inv-loop result counts all₀ reading₀ t6 all reading = reading ≤ 6
 
 abbrev μ-loop : tie.MeasureT-loop
-μ-loop result counts all₀ reading₀ t6 all reading = 5 - reading
+μ-loop result counts all₀ reading₀ t6 all reading = 6 - reading
 
 loop-holds : tie.Need-loop-holds Inv-loop μ-loop
 loop-holds c = search needs

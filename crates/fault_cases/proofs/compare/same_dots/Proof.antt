@@ -6,10 +6,10 @@ use Rattle.fault_cases.proofs.compare.same_dots.Statement.{statement}
 use Rattle.fault_cases.proofs.compare.same_dots.Tie as tie
 
 abbrev Inv-loop : tie.InvT-loop
-Inv-loop result dots all₀ i₀ t6 i-end all i = i ≤ i-end
+Inv-loop result dots clear all₀ i₀ t8 i-end all i = i ≤ i-end
 
 abbrev μ-loop : tie.MeasureT-loop
-μ-loop result dots all₀ i₀ t6 i-end all i = i-end - i
+μ-loop result dots clear all₀ i₀ t8 i-end all i = i-end - i
 
 loop-holds : tie.Need-loop-holds Inv-loop μ-loop
 loop-holds c = search needs
@@ -23,20 +23,23 @@ shared-slice-read-wide c = search needs
 wide-requires : tie.Need-wide-requires Inv-loop μ-loop
 wide-requires c κs = search needs
 
+mul-expected : tie.Need-mul-expected Inv-loop μ-loop
+mul-expected c = search needs
+
+add-expected : tie.Need-add-expected Inv-loop μ-loop
+add-expected c = search needs
+
+shared-slice-read-expected : tie.Need-shared-slice-read-expected Inv-loop μ-loop
+shared-slice-read-expected c = search needs
+
+expected-requires : tie.Need-expected-requires Inv-loop μ-loop
+expected-requires c κs = search needs
+
 slice-aggregate-same-at : tie.Need-slice-aggregate-same-at Inv-loop μ-loop
 slice-aggregate-same-at c = search needs
 
 byte-at-requires : tie.Need-byte-at-requires Inv-loop μ-loop
 byte-at-requires c κs = search needs
-
-mul-same-at : tie.Need-mul-same-at Inv-loop μ-loop
-mul-same-at c = search needs
-
-add-same-at : tie.Need-add-same-at Inv-loop μ-loop
-add-same-at c = search needs
-
-shared-slice-read-same-at : tie.Need-shared-slice-read-same-at Inv-loop μ-loop
-shared-slice-read-same-at c = search needs
 
 same-at-requires : tie.Need-same-at-requires Inv-loop μ-loop
 same-at-requires c κs = search needs
@@ -63,11 +66,12 @@ same-dots-spec =
     mul-wide
     shared-slice-read-wide
     wide-requires
+    mul-expected
+    add-expected
+    shared-slice-read-expected
+    expected-requires
     slice-aggregate-same-at
     byte-at-requires
-    mul-same-at
-    add-same-at
-    shared-slice-read-same-at
     same-at-requires
     add-i
     loop-less
