@@ -26,12 +26,11 @@ static void set_lamp(struct situation *s, uint32_t dot, uint32_t level)
     must(lp586x_lamp(s->record, sizeof s->record, dot / 18, dot % 18, level));
 }
 
-/* Each lamp has a level of its own, from one level up. */
-static void light_all(struct situation *s, uint32_t level)
+static void light_all(struct situation *s)
 {
     for (uint32_t dot = 0; dot < LP586X_DOTS; dot++)
         if (has_dot(s->member, dot))
-            set_lamp(s, dot, level + dot);
+            set_lamp(s, dot, 0x2040 + dot);
 }
 
 static void update(struct situation *s)
@@ -116,10 +115,10 @@ static void fill_faults(struct situation *s)
     s->faults[40] = 0x02;
 }
 
-/* The chip looks for faults from level 6,400 up. */
-static void fill_faults_dim(struct situation *s)
+/* Data mode 0. What stands in the PWM bytes are then other levels, bright and dim ones. */
+static void fill_faults_narrow(struct situation *s)
 {
-    light_all(s, 0x1040);
+    must(lp586x_register(s->record, sizeof s->record, 0x001, 0x58));
     update(s);
     fill_faults(s);
 }
@@ -131,7 +130,7 @@ void prepare_case(const struct bench_case *measured, struct situation *s, uint32
     must(lp586x_open(s->record, sizeof s->record, member, member == 3, 0));
     must(lp586x_chip_at_reset(s->chip, sizeof s->chip, member, member == 3, 0));
     must(lp586x_register(s->record, sizeof s->record, 0x000, 0x01));
-    light_all(s, 0x2040);
+    light_all(s);
     update(s);
     measured->prepare(s);
 }
@@ -235,7 +234,7 @@ const struct bench_case cases[] = {
     {"Transactions of a list of one lamp", list_one_lamp, call_walk},
     {"Transactions of the list of the full update", list_all_registers, call_walk},
     {"Faults", fill_faults, call_faults},
-    {"Faults, every lamp dim", fill_faults_dim, call_faults},
+    {"Faults, 8-bit levels", fill_faults_narrow, call_faults},
     {"Chip at reset", as_it_is, call_chip_at_reset},
     {"Chip's power lost", as_it_is, call_chip_power_lost},
     {"Feed, list of one lamp", list_one_lamp, call_feed},

@@ -212,7 +212,8 @@ pub record FaultsOutcome : Type 0 where
   pub opens : ℕ
   pub shorts : ℕ
 
--- "0 stores in *opens_agree .. and in *shorts_agree": by the answer, and the result as the call on the record leaves it, new
+-- "opens_agree is 1 if bit 1 of 064h says whether a dot is open, shorts_agree if bit 0 does for short, else 0.": by the answer, and the
+-- result as the call leaves it, new
 abbrev pub faultsOutcome : faults.Answer → List ℕ → ℕ → ℕ → FaultsOutcome
 faultsOutcome answer new opens shorts = record {
   answer = getD (answerNumbers answer) 0 0;

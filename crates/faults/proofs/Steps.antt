@@ -23,8 +23,8 @@ use Rattle.map.specs.ListLaws.{filled-none, filled-more, filled-length, filled-
 use Rattle.dots.specs.Dots.{wideOf, levelOf}
 use Rattle.host.specs.declared.Record.{Record}
 use Rattle.faults.specs.Faults.{faultByte, bitSet, isSet, leastOf, isDim, hasDot, lampReading, reading, readings, someBelow, isFaulty, someFaulty, opensAgree, shortsAgree, faultsChecked, answerNumbers, answered, faultsAnswer, faultsResult}
-use Rattle.faults.specs.FaultLaws.{Taken, faults-taken, filled-same}
-use Rattle.faults.specs.ReadTo.{bitsReading, ReadTo, unlessDim, testedAt}
+use Rattle.faults.specs.FaultLaws.{Taken, faults-taken}
+use Rattle.faults.specs.Passes.{bitsReading, ReadTo, unlessDim, testedAt}
 use Rattle.faults.specs.declared.Answer.{Answer}
 use Rattle.faults.specs.declared.Answer.the-variants.{Read, Refused}
 

@@ -14,7 +14,7 @@ use lib.ListN.{length, getD}
 use Rattle.map.specs.declared.dots.Field.{Field}
 use Rattle.map.specs.declared.dots.Field.the-variants.{Open, Short}
 use Rattle.map.specs.declared.refusals.Answer as checks
-use Rattle.map.specs.declared.refusals.Refusal.the-variants.{FaultLength, BufferShort}
+use Rattle.map.specs.declared.refusals.Refusal.the-variants.{BufferShort}
 use Rattle.map.specs.Refusals.{accepted}
 use Rattle.map.specs.Map.{linesOf, columnsOf, isDot, dotNumber, addressOf, shiftOf}
 use Rattle.map.specs.MapLaws.{dot-sink, lines-most, number-past}

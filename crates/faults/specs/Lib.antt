@@ -1,5 +1,5 @@
 pub mod Faults
 pub mod FaultLaws
-pub mod ReadTo
+pub mod Passes
 pub mod UntestedLaws
 pub mod FaultExamples

@@ -1,21 +1,19 @@
 -- Dim lamps: with none the readings are those by the bits alone, and what does not see them.
 -- Assumes nothing.
-use mathlib.Core.Path.{_≡_, refl, ap}
+use mathlib.Core.Path.{_≡_, refl}
 use mathlib.Core.Bool.{Bool, true, false, cond}
 use mathlib.Core.Logic.{_⊎_, inl, inr}
 use mathlib.Core.List.{List}
 use Prim.Native.Nat.{ℕ, _<_, _≤_}
-use native.Mathlib.Omega.{arith}
 use borrow.Author.Tests.{lt-ltb, le-ltb}
-use lib.Dec.{ltb}
 use Rattle.map.specs.declared.dots.Field.the-variants.{Open, Short}
 use Rattle.map.specs.Lists.{filled}
 use Rattle.dots.specs.Dots.{wideOf, levelOf}
 use Rattle.host.specs.declared.Record.{Record}
-use Rattle.host.specs.Record.{recordOf, soundOf, whenSound}
-use Rattle.faults.specs.Faults.{leastOf, isDim, isSet, hasDot, lampReading, reading, readings, faultsChecked, faultsAnswer, faultsResult}
-use Rattle.faults.specs.FaultLaws.{filled-same, has-dot-below}
-use Rattle.faults.specs.ReadTo.{bitsReading}
+use Rattle.host.specs.Record.{soundOf, whenSound}
+use Rattle.faults.specs.Faults.{leastOf, isDim, isSet, hasDot, lampReading, reading, readings, faultsChecked, faultsAnswer}
+use Rattle.faults.specs.FaultLaws.{filled-same}
+use Rattle.faults.specs.Passes.{bitsReading}
 
 -- ---- a lamp at or above the figure, and one below it
 

@@ -1,12 +1,11 @@
 // Dim lamps: the chip does not look for their faults.
 ghost use mathlib.Core.Path.{_≡_};
-ghost use mathlib.Core.Bool.{cond};
 ghost use Prim.Native.Nat.{_≤_};
 ghost use lib.ListN.{length};
 ghost use Rattle.map.specs.Lists.{filled};
 ghost use Rattle.dots.specs.Dots.{wideOf};
 ghost use Rattle.faults.specs.Faults.{leastOf};
-ghost use Rattle.faults.specs.ReadTo.{testedAt, unlessDim};
+ghost use Rattle.faults.specs.Passes.{testedAt, unlessDim};
 
 // The least level at which the chip looks for opens and shorts, in data modes 0 and 1. Document 002, lines 622 and 633: "PWM ≥ 25 (Mode 1
 // and Mode 2) or PWM ≥ 6400 (Mode 3)".

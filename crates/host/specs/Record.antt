@@ -43,7 +43,7 @@ soundOf r =
 unfoldable pub mayWrite : Header → ℕ → Bool
 mayWrite h a = writableOf (h .member) a
 
--- "Every call but Open and Faults first refuses an unsound record with 14."
+-- "Every call but Open .. first refuses an unsound record with 14."
 unfoldable pub whenSound : Record → Answer → Answer
 whenSound r answer = cond (soundOf r) answer (Refused Unsound)
 
@@ -144,7 +144,7 @@ argumentsAnswer h settings (Group l s g) lent = fieldAnswer h l s g 3
 argumentsAnswer h settings (Switch l s x) lent = fieldAnswer h l s x 1
 argumentsAnswer h settings Scene lent = sceneAnswer h settings lent
 
--- "Every call but Open and Faults first refuses an unsound record with 14.": what any record answers
+-- "Every call but Open .. first refuses an unsound record with 14.": what any record answers
 unfoldable pub settingAnswer : Record → Setting → List ℕ → Answer
 settingAnswer r q lent = whenSound r (argumentsAnswer (r .header) (r .settings) q lent)
 
@@ -194,7 +194,7 @@ sceneOf r bytes = settingOf r Scene bytes
 
 -- ---- Power lost
 
--- "Every call but Open and Faults first refuses an unsound record with 14": Power lost refuses nothing else
+-- "Every call but Open .. first refuses an unsound record with 14": Power lost refuses nothing else
 unfoldable pub soundAnswer : Record → Answer
 soundAnswer r = whenSound r Accepted
 

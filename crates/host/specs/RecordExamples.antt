@@ -36,7 +36,7 @@ refused-open = (refl, refl, refl)
 
 -- ---- Refusals
 
--- "Every call but Open and Faults first refuses an unsound record with 14."
+-- "Every call but Open .. first refuses an unsound record with 14."
 module _ (r : Record) (unsound : soundOf r ≡ false) where
   setting-14 : (q : Setting) (lent : List ℕ) → answerNumber (settingOf r q lent .answer) ≡ 14
   unfolding settingOf changedTo settingAnswer whenSound

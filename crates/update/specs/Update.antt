@@ -52,7 +52,7 @@ pub record Sending : Type 0 where
   pub short : ListAnswer
   pub image : List ℕ
 
--- "Every call but Open and Faults first refuses an unsound record with 14." "10: buffer shorter than 4 + 2n + t". "Otherwise .. n and t
+-- "Every call but Open .. first refuses an unsound record with 14." "10: buffer shorter than 4 + 2n + t". "Otherwise .. n and t
 -- answered"
 unfoldable pub sendAnswer : Record → Sending → ℕ → ListAnswer
 sendAnswer r x size =

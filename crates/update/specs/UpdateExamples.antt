@@ -72,7 +72,7 @@ module _ (r : Record) (sound : soundOf r ≡ true) where
   unfolding sendBuffer sendAnswer encode listOf transactionOf headFirst headSecond
   clear-bytes b p = rw (sound, b, p) refl
 
--- "Every call but Open and Faults first refuses an unsound record with 14."
+-- "Every call but Open .. first refuses an unsound record with 14."
 unsound-14 : (r : Record) (x : Sending) (size : ℕ) → soundOf r ≡ false → sendAnswer r x size ≡ Refused Unsound
 unfolding sendAnswer
 unsound-14 r x size unsound = rw unsound refl

@@ -1,6 +1,7 @@
 -- `faults::faults_parts` meets its contract.
 -- Assumes nothing.
 use native.Mathlib.Omega.{arith}
+use Rattle.host.specs.Record.{recordOf}
 use Rattle.faults.proofs.Steps.{check-passed, read-room, refused-is, read-is}
 use borrow.Author.Needs.{needs}
 use Rattle.faults.proofs.faults_parts.Statement.{statement}
@@ -38,7 +39,8 @@ shared-slice-read-read : tie.Need-shared-slice-read-read
 shared-slice-read-read c =
     let all = c .before .before .before .before .before .before .before .before in
     let told = all .before .before .before in
-    omega (arith, check-passed _ _ _ _ (told .before .before .checked .ensures) (told .enum-told .given .1) .bytes)
+    let args = told .before .before .before .before .before .before .before .args in
+    omega (arith, check-passed (recordOf (args .header) (args .settings .now) (args .image .now)) _ _ _ (told .before .before .checked .ensures) (told .enum-told .given .1) .bytes)
 
 read-requires : tie.Need-read-requires
 read-requires c κs = search needs
@@ -54,7 +56,8 @@ returns-2 c =
     let marked = c .before .before .before .before in
     let all = marked .before .before .before .before .before in
     let told = all .before .before .before in
-    read-is _ _ _ _ (told .before .before .checked .ensures) _ _ (all .read-all .result .opens) (all .read-all .result .shorts) _
+    let args = told .before .before .before .before .before .before .before .args in
+    read-is (recordOf (args .header) (args .settings .now) (args .image .now)) (args .bytes .now) (args .result .now) _ (told .before .before .checked .ensures) _ _ (all .read-all .result .opens) (all .read-all .result .shorts) _
     (told .enum-told .given .1) (all .read-all .ensures .0) (marked .mark .ensures) (all .read-all .ensures .1 .0) (all .read-all .ensures .1 .1)
     (c .read .ensures)
 

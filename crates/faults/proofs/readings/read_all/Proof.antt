@@ -3,7 +3,7 @@
 use Prim.Native.Nat.{_-_, _*_}
 use native.Mathlib.Omega.{arith}
 use borrow.Author.Needs.{needs}
-use Rattle.faults.specs.ReadTo.{ReadTo}
+use Rattle.faults.specs.Passes.{ReadTo}
 use Rattle.faults.proofs.Steps.{read-none, next-line, read-whole}
 use Rattle.faults.proofs.readings.read_all.Statement.{statement}
 use Rattle.faults.proofs.readings.read_all.Tie as tie
