@@ -22,7 +22,7 @@ use Rattle.map.specs.Lists.{filled}
 use Rattle.map.specs.ListLaws.{filled-none, filled-more, filled-length, filled-in, filled-out}
 use Rattle.dots.specs.Dots.{wideOf, levelOf}
 use Rattle.host.specs.declared.Record.{Record}
-use Rattle.faults.specs.Faults.{faultByte, bitSet, isSet, leastOf, isDim, hasDot, lampReading, reading, readings, someBelow, isFaulty, someFaulty, opensAgree, shortsAgree, faultsChecked, answerNumbers, answered, faultsAnswer, faultsResult}
+use Rattle.faults.specs.Faults.{faultByte, bitSet, isSet, testedFrom, isDim, hasDot, lampReading, reading, readings, someBelow, isFaulty, someFaulty, opensAgree, shortsAgree, faultsChecked, answerNumbers, answered, faultsAnswer, faultsResult}
 use Rattle.faults.specs.FaultLaws.{Taken, faults-taken}
 use Rattle.faults.specs.Passes.{bitsReading, ReadTo, unlessDim, testedAt}
 use Rattle.faults.specs.declared.Answer.{Answer}
@@ -178,7 +178,7 @@ read-whole m bytes old result opens shorts line h so =
     let e : 18 * line ≡ 198 = omega (arith, so .within) in
     (rw e at (so .stored), (rw e at (so .opens-some), rw e at (so .shorts-some)))
 
--- ---- least, unless_dim, mark
+-- ---- unless_dim, mark
 
 pub tested-lamp : (dim : Bool) (reading : ℕ) → reading ≡ 0 → cond dim 5 0 ≡ unlessDim dim reading
 unfolding unlessDim
@@ -197,11 +197,11 @@ pub record MarkedTo (image old result : List ℕ) (d : ℕ) : Type 0 where
 pub marked-none : (image old : List ℕ) → MarkedTo image old old 0
 marked-none image old = record { within = omega arith; room = refl; stored = sym (filled-none (testedAt image old) 0 old) }
 
-pub marked-more : (image old result : List ℕ) (d level least r : ℕ) → d < 198 → 198 ≤ length old → level ≡ levelOf image d →
-    least ≡ leastOf (wideOf image) → r ≡ unlessDim (ltb level least) (getD result d 0) → MarkedTo image old result d →
+pub marked-more : (image old result : List ℕ) (d level figure r : ℕ) → d < 198 → 198 ≤ length old → level ≡ levelOf image d →
+    figure ≡ testedFrom (wideOf image) → r ≡ unlessDim (ltb level figure) (getD result d 0) → MarkedTo image old result d →
     MarkedTo image old (set result d r) (d + 1)
 unfolding testedAt isDim
-marked-more image old result d level least r h room el es er so = record {
+marked-more image old result d level figure r h room el es er so = record {
   within = omega arith;
   room = length-set result d r ∙ so .room;
   stored = sym (filled-more (testedAt image old) 0 d old ∙ rw (zero-add d, sym (so .stored), sym value) refl);

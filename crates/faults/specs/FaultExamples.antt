@@ -14,7 +14,7 @@ use Rattle.dots.specs.Dots.{wideOf, levelOf}
 use Rattle.host.specs.declared.Record.{Record}
 use Rattle.host.specs.Record.{headerOf, recordOf, soundOf, whenSound}
 use Rattle.faults.specs.declared.Answer.the-variants.{Read, Refused}
-use Rattle.faults.specs.Faults.{faultsChecked, faultByte, bitSet, isSet, leastNarrow, leastWide, leastOf, isDim, hasDot, lampReading, reading, readings, someBelow, isFaulty, someFaulty, opensAgree, shortsAgree, answerNumbers, answered, faultsAnswer, faultsResult}
+use Rattle.faults.specs.Faults.{faultsChecked, faultByte, bitSet, isSet, testedFromNarrow, testedFromWide, testedFrom, isDim, hasDot, lampReading, reading, readings, someBelow, isFaulty, someFaulty, opensAgree, shortsAgree, answerNumbers, answered, faultsAnswer, faultsResult}
 
 -- "13: input not 67. 10: result under 198.", in this order, for a sound record
 module _ (r : Record) (sound : soundOf r ≡ true) where
@@ -42,25 +42,25 @@ levels mode = 0x01 ∷ mode ∷ (replicate 510 0x00 ++ (0xFF ∷ 0x18 ∷ 0x00 �
 dim-by-mode : (m : ℕ → List Bool) → ((x : ℕ) → m x ≡ map (isDim (levels x)) (0 ∷ 1 ∷ 2 ∷ 3 ∷ 4 ∷ [])) →
     (m 0x58 ≡ false ∷ true ∷ true ∷ false ∷ true ∷ []) × (m 0x5A ≡ false ∷ true ∷ true ∷ false ∷ true ∷ [])
     × (m 0x5C ≡ true ∷ false ∷ false ∷ true ∷ false ∷ []) × (m 0x5E ≡ true ∷ false ∷ false ∷ true ∷ false ∷ [])
-unfolding isDim leastOf leastNarrow leastWide levelOf wideOf isWide dataMode levels
+unfolding isDim testedFrom testedFromNarrow testedFromWide levelOf wideOf isWide dataMode levels
 dim-by-mode m e = (e 0x58, e 0x5A, e 0x5C, e 0x5E)
 
 -- "0 sound, 1 open, 2 short, 3 both, 4 no such dot", "5, untested": of the LP5860, with levels of 16 bits and of 8, and, whose sinks 2 and 3
 -- are absent, of the LP5867
 readings-of-lp5860 : (map (reading 0 (levels 0x5E) (bytes 0x03)) (0 ∷ 1 ∷ 2 ∷ 3 ∷ 4 ∷ 18 ∷ 197 ∷ 198 ∷ []) ≡ 1 ∷ 2 ∷ 3 ∷ 5 ∷ 0 ∷ 1 ∷ 3 ∷ 4 ∷ [])
     × (map (reading 0 (levels 0x5A) (bytes 0x03)) (0 ∷ 1 ∷ 2 ∷ 3 ∷ 4 ∷ 18 ∷ 197 ∷ 198 ∷ []) ≡ 1 ∷ 2 ∷ 3 ∷ 0 ∷ 5 ∷ 1 ∷ 3 ∷ 4 ∷ [])
-unfolding reading hasDot isSet bitSet faultByte isDim leastOf leastNarrow leastWide levelOf wideOf isWide dataMode lampReading addressOf shiftOf numberIn dotIn linesOf columnsOf hasColumn bytes levels
+unfolding reading hasDot isSet bitSet faultByte isDim testedFrom testedFromNarrow testedFromWide levelOf wideOf isWide dataMode lampReading addressOf shiftOf numberIn dotIn linesOf columnsOf hasColumn bytes levels
 readings-of-lp5860 = (refl, refl)
 
 readings-of-lp5867 : map (reading 3 (levels 0x5E) (bytes 0x03)) (0 ∷ 1 ∷ 2 ∷ 3 ∷ 8 ∷ 197 ∷ []) ≡ 1 ∷ 2 ∷ 4 ∷ 4 ∷ 5 ∷ 4 ∷ []
-unfolding reading hasDot isSet bitSet faultByte isDim leastOf leastNarrow leastWide levelOf wideOf isWide dataMode lampReading addressOf shiftOf numberIn dotIn linesOf columnsOf hasColumn bytes levels
+unfolding reading hasDot isSet bitSet faultByte isDim testedFrom testedFromNarrow testedFromWide levelOf wideOf isWide dataMode lampReading addressOf shiftOf numberIn dotIn linesOf columnsOf hasColumn bytes levels
 readings-of-lp5867 = refl
 
 -- "in the chip image, in the chip image's data mode": not the settings, which have levels of 8 bits here; and "by dot number" in "the first 198
 -- bytes", those behind them stay
 by-the-image : (take 5 (readings (recordOf (headerOf 0 0 0) (levels 0x5A) (levels 0x5E)) (bytes 0x03) (replicate 200 0xA5)) ≡ 1 ∷ 2 ∷ 3 ∷ 5 ∷ 0 ∷ [])
     × (drop 196 (readings (recordOf (headerOf 0 0 0) (levels 0x5A) (levels 0x5E)) (bytes 0x03) (replicate 200 0xA5)) ≡ 0x05 ∷ 0x03 ∷ 0xA5 ∷ 0xA5 ∷ [])
-unfolding readings filled reading hasDot isSet bitSet faultByte isDim leastOf leastNarrow leastWide levelOf wideOf isWide dataMode lampReading addressOf shiftOf numberIn dotIn linesOf columnsOf hasColumn bytes levels
+unfolding readings filled reading hasDot isSet bitSet faultByte isDim testedFrom testedFromNarrow testedFromWide levelOf wideOf isWide dataMode lampReading addressOf shiftOf numberIn dotIn linesOf columnsOf hasColumn bytes levels
 by-the-image = (refl, refl)
 
 -- "whether 064h bit 1 equals "some existing dot is open" and bit 0 the same for short": 02h says open alone

@@ -49,20 +49,20 @@ isSet f bytes d = bitSet (faultByte bytes (addressOf f (d / 18) (d % 18))) (shif
 
 -- "The chip looks for shorts and opens only where PWM is at least 25 in data modes 0 and 1". Document 002, line 622 for opens and line 633 for
 -- shorts: "only performed when PWM ≥ 25 (Mode 1 and Mode 2) or PWM ≥ 6400 (Mode 3)". Mode 1 is data mode 0, Mode 2 is 1, Mode 3 is 2 and 3.
-unfoldable pub leastNarrow : ℕ
-leastNarrow = 25
+unfoldable pub testedFromNarrow : ℕ
+testedFromNarrow = 25
 
 -- "or 6,400 in modes 2 and 3 (document 002)"
-unfoldable pub leastWide : ℕ
-leastWide = 6400
+unfoldable pub testedFromWide : ℕ
+testedFromWide = 6400
 
 -- "that figure", by whether levels have 16 bits
-unfoldable pub leastOf : Bool → ℕ
-leastOf wide = cond wide leastWide leastNarrow
+unfoldable pub testedFrom : Bool → ℕ
+testedFrom wide = cond wide testedFromWide testedFromNarrow
 
 -- a lamp "whose own level in the chip image, in the chip image's data mode, is below that figure"
 unfoldable pub isDim : List ℕ → ℕ → Bool
-isDim image d = ltb (levelOf image d) (leastOf (wideOf image))
+isDim image d = ltb (levelOf image d) (testedFrom (wideOf image))
 
 -- ---- The readings
 

@@ -11,20 +11,20 @@ use Rattle.map.specs.Lists.{filled}
 use Rattle.dots.specs.Dots.{wideOf, levelOf}
 use Rattle.host.specs.declared.Record.{Record}
 use Rattle.host.specs.Record.{soundOf, whenSound}
-use Rattle.faults.specs.Faults.{leastOf, isDim, isSet, hasDot, lampReading, reading, readings, faultsChecked, faultsAnswer}
+use Rattle.faults.specs.Faults.{testedFrom, isDim, isSet, hasDot, lampReading, reading, readings, faultsChecked, faultsAnswer}
 use Rattle.faults.specs.FaultLaws.{filled-same}
 use Rattle.faults.specs.Passes.{bitsReading}
 
 -- ---- a lamp at or above the figure, and one below it
 
 module _ (image : List ℕ) (d : ℕ) where
-  pub bright : leastOf (wideOf image) ≤ levelOf image d → isDim image d ≡ false
+  pub bright : testedFrom (wideOf image) ≤ levelOf image d → isDim image d ≡ false
   unfolding isDim
-  bright h = le-ltb (levelOf image d) (leastOf (wideOf image)) h
+  bright h = le-ltb (levelOf image d) (testedFrom (wideOf image)) h
 
-  pub dim : levelOf image d < leastOf (wideOf image) → isDim image d ≡ true
+  pub dim : levelOf image d < testedFrom (wideOf image) → isDim image d ≡ true
   unfolding isDim
-  dim h = lt-ltb (levelOf image d) (leastOf (wideOf image)) h
+  dim h = lt-ltb (levelOf image d) (testedFrom (wideOf image)) h
 
 -- ---- the reading of a lamp
 
@@ -59,7 +59,7 @@ module _ (m : ℕ) (image bytes : List ℕ) (d : ℕ) where
 
 -- "at or above the figure": every lamp that the record's member has, in the chip image and its own data mode
 abbrev pub NoneDim : Record → Type 0
-NoneDim r = (d : ℕ) → hasDot (r .header .member) d ≡ true → leastOf (wideOf (r .image)) ≤ levelOf (r .image) d
+NoneDim r = (d : ℕ) → hasDot (r .header .member) d ≡ true → testedFrom (wideOf (r .image)) ≤ levelOf (r .image) d
 
 module _ (r : Record) (bytes result : List ℕ) where
   -- with no dim lamp the readings are the old ones, those by the bits alone

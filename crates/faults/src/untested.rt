@@ -4,20 +4,24 @@ ghost use Prim.Native.Nat.{_≤_};
 ghost use lib.ListN.{length};
 ghost use Rattle.map.specs.Lists.{filled};
 ghost use Rattle.dots.specs.Dots.{wideOf};
-ghost use Rattle.faults.specs.Faults.{leastOf};
+ghost use Rattle.faults.specs.Faults.{testedFrom};
 ghost use Rattle.faults.specs.Passes.{testedAt, unlessDim};
 
 // The least level at which the chip looks for opens and shorts, in data modes 0 and 1. Document 002, lines 622 and 633: "PWM ≥ 25 (Mode 1
 // and Mode 2) or PWM ≥ 6400 (Mode 3)".
-const LEAST_NARROW: usize = 25;
+const TESTED_FROM_NARROW: usize = 25;
 
 // And in data modes 2 and 3.
-const LEAST_WIDE: usize = 6400;
+const TESTED_FROM_WIDE: usize = 6400;
 
-fn least(wide: bool) -> usize
-    ensures { λ r. ⌜ r ≡ leastOf wide ⌝ }
+fn tested_from(wide: bool) -> usize
+    ensures { λ r. ⌜ r ≡ testedFrom wide ⌝ }
 {
-    if wide { LEAST_WIDE } else { LEAST_NARROW }
+    if wide {
+        TESTED_FROM_WIDE
+    } else {
+        TESTED_FROM_NARROW
+    }
 }
 
 // A reading by the bits; of a lamp with clear bits, 5 where it is dim.
@@ -35,10 +39,10 @@ pub(crate) fn mark(image: &[u8], wide: bool, result: &mut [u8])
     requires { ⌜ (wide ≡ wideOf (now image)) × (198 ≤ length (now result)) ⌝ }
     ensures { λ _. ⌜ now (result .exit) ≡ filled (testedAt (now (image .entry)) (now (result .entry))) 0 198 (now (result .entry)) ⌝ }
 {
-    let least = least(wide);
+    let figure = tested_from(wide);
     let mut dot: usize = 0;
     while dot < 198 {
-        let dim = dots::level_as(image, wide, dot as u8) < least;
+        let dim = dots::level_as(image, wide, dot as u8) < figure;
         result[dot] = unless_dim(result[dot], dim);
         dot += 1;
     }

@@ -4,19 +4,19 @@ use mathlib.Core.Path.{ap, _∙_}
 use Prim.Native.Nat.{_-_}
 use native.Mathlib.Omega.{arith}
 use borrow.Author.Needs.{needs}
-use Rattle.faults.specs.Faults.{leastOf}
+use Rattle.faults.specs.Faults.{testedFrom}
 use Rattle.faults.proofs.Steps.{MarkedTo, marked-none, marked-more, marked-whole}
 use Rattle.faults.proofs.untested.mark.Statement.{statement}
 use Rattle.faults.proofs.untested.mark.Tie as tie
 
 abbrev Inv-loop : tie.InvT-loop
-Inv-loop image wide result₀ least dot₀ result dot = MarkedTo image result₀ result dot
+Inv-loop image wide result₀ figure dot₀ result dot = MarkedTo image result₀ result dot
 
 abbrev μ-loop : tie.MeasureT-loop
-μ-loop image wide result₀ least dot₀ result dot = 198 - dot
+μ-loop image wide result₀ figure dot₀ result dot = 198 - dot
 
-least-requires : tie.Need-least-requires Inv-loop μ-loop
-least-requires c κs = search needs
+tested-from-requires : tie.Need-tested-from-requires Inv-loop μ-loop
+tested-from-requires c κs = search needs
 
 loop-holds : tie.Need-loop-holds Inv-loop μ-loop
 loop-holds c = marked-none _ _
@@ -48,7 +48,7 @@ loop-again c =
     let looped = read .before .before in
     let given = looped .before .before .before .before in
     marked-more _ _ _ _ _ _ _ (omega arith) (given .pre .1) (read .level-as .ensures (given .pre .0) .0)
-    (looped .before .least .ensures ∙ ap leastOf (given .pre .0)) (c .unless-dim .ensures) (looped .loop .inv)
+    (looped .before .tested-from .ensures ∙ ap testedFrom (given .pre .0)) (c .unless-dim .ensures) (looped .loop .inv)
 
 same-length : tie.Need-same-length Inv-loop μ-loop
 same-length c = c .before .loop .inv .room
@@ -62,7 +62,7 @@ mark-spec =
     (tie.spec
     Inv-loop
     μ-loop
-    least-requires
+    tested-from-requires
     loop-holds
     cast-level-as
     level-as-requires
