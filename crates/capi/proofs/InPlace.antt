@@ -298,14 +298,12 @@ pub bool-number : (b : Bool) → boolByte b ≡ cond b 1 0
 bool-number true = refl
 bool-number false = refl
 
-module _ (bytes : List ℕ) (h : length bytes ≡ recordSize) (header : Header) (eh : header ≡ headerIn bytes) (given result : List ℕ) where
-  abbrev held : Record
-  held = recordOf header (settingsIn bytes) (imageIn bytes)
-
-  pub faults-answer : (answer : faults.Answer) → answer ≡ faultsAnswer held given result → faultsAnswerBy bytes (faultsAnswer (recordIn bytes) given result) ≡ answer
-  unfolding faultsAnswerBy recordIn
-  faults-answer answer e = rw (record-sized bytes h, sym eh) (sym e)
-
-  pub faults-result : (new : List ℕ) → new ≡ faultsResult held given result → new ≡ bufferAfter bytes (faultsResult (recordIn bytes) given result) result
-  unfolding bufferAfter recordIn
-  faults-result new e = rw (record-sized bytes h, sym eh) e
+-- Faults on the parts of a record's bytes: its answer, and the result
+pub faults-done : (bytes : List ℕ) → length bytes ≡ recordSize → (header : Header) → header ≡ headerIn bytes → (given result : List ℕ)
+    (answer : faults.Answer) (new : List ℕ) →
+    (answer ≡ faultsAnswer (recordOf header (settingsIn bytes) (imageIn bytes)) given result) ×
+    (new ≡ faultsResult (recordOf header (settingsIn bytes) (imageIn bytes)) given result) →
+    (faultsAnswerBy bytes (faultsAnswer (recordIn bytes) given result) ≡ answer) × (new ≡ bufferAfter bytes (faultsResult (recordIn bytes) given result) result)
+unfolding faultsAnswerBy bufferAfter recordIn
+faults-done bytes h header eh given result answer new made =
+    (rw (record-sized bytes h, sym eh) (sym (made .0)), rw (record-sized bytes h, sym eh) (made .1))

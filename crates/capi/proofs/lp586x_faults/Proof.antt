@@ -5,7 +5,7 @@ use borrow.Author.Needs.{needs}
 use Rattle.faults.specs.Faults.{answerNumbers}
 use Rattle.capi.specs.Capi.{bufferAfter, faultsAnswerBy}
 use Rattle.capi.specs.CapiLaws.{record-unsized}
-use Rattle.capi.proofs.InPlace.{bool-number, faults-answer, faults-result}
+use Rattle.capi.proofs.InPlace.{bool-number, faults-done}
 use Rattle.capi.proofs.lp586x_faults.Statement.{statement}
 use Rattle.capi.proofs.lp586x_faults.Tie as tie
 
@@ -68,19 +68,10 @@ unfolding answerNumbers
 returns-2 c =
     let read = c .before .before .before .before .before in
     let headed = read .before .before .before .before in
-    let begun = headed .before .before .before .before .before in
-    let bytes = begun .args .bytes .now in
-    let given = begun .args .given .now in
-    let result = begun .args .result .now in
-    let sized = headed .before .if1 .left in
-    let made = read .faults-parts .ensures in
-    rw (faults-answer bytes sized _ (headed .header .ensures) given result _ (made .0) ∙ c .before .answer .given .1) (
-      refl,
-      (
-        faults-result bytes sized _ (headed .header .ensures) given result _ (made .1),
-        (bool-number (c .before .answer .given .0 .0), bool-number (c .before .answer .given .0 .1 .0)),
-      ),
-    )
+    let args = headed .before .before .before .before .before .args in
+    let done = faults-done (args .bytes .now) (headed .before .if1 .left) _ (headed .header .ensures) (args .given .now) (args .result .now) _ _ (read .faults-parts .ensures) in
+    rw (done .0 ∙ c .before .answer .given .1)
+    (refl, (done .1, (bool-number (c .before .answer .given .0 .0), bool-number (c .before .answer .given .0 .1 .0))))
 
 same-length-2 : tie.Need-same-length-2
 same-length-2 c = search needs
@@ -90,14 +81,9 @@ unfolding answerNumbers
 returns-3 c =
     let read = c .before .before .before .before .before .before in
     let headed = read .before .before .before .before in
-    let begun = headed .before .before .before .before .before in
-    let bytes = begun .args .bytes .now in
-    let given = begun .args .given .now in
-    let result = begun .args .result .now in
-    let sized = headed .before .if1 .left in
-    let made = read .faults-parts .ensures in
-    rw (faults-answer bytes sized _ (headed .header .ensures) given result _ (made .0) ∙ c .before .before .answer2 .given .1)
-    (c .refusal-number .ensures, (faults-result bytes sized _ (headed .header .ensures) given result _ (made .1), (refl, refl)))
+    let args = headed .before .before .before .before .before .args in
+    let done = faults-done (args .bytes .now) (headed .before .if1 .left) _ (headed .header .ensures) (args .given .now) (args .result .now) _ _ (read .faults-parts .ensures) in
+    rw (done .0 ∙ c .before .before .answer2 .given .1) (c .refusal-number .ensures, (done .1, (refl, refl)))
 
 pub lp586x-faults-spec : {M : Type 1} → statement M
 lp586x-faults-spec =
