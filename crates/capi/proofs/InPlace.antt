@@ -25,7 +25,6 @@ use Rattle.map.specs.Images.{resetImage}
 use Rattle.burst.specs.Burst.{transactions}
 use Rattle.calls.specs.declared.Setting.{Setting}
 use Rattle.host.specs.declared.Header.{Header}
-use Rattle.host.specs.declared.Record.{Record}
 use Rattle.host.specs.declared.Changed.{Changed}
 use Rattle.host.specs.Record.{recordOf, opened, openHost, openOf, settingAnswer, settingNumbers, putSetting, changedTo, settingOf, soundAnswer, powerLostOf}
 use Rattle.faults.specs.declared.Answer as faults
