@@ -63,8 +63,8 @@ static void one_level(uint32_t member, uint32_t mode, int level)
     snprintf(place, sizeof place, "member %u, data mode %u, level %u", member, mode, of_width[level]);
     context(place);
     world_lit(&world, member, mode, of_width[level]);
-    world_lamps(&world, bright ? 0 : of_width[LEVELS - 1]);
     world_mode(&world, mode ^ 2);
+    world_lamps(&world, bright ? 0 : levels[1 - mode / 2][LEVELS - 1]);
     for (uint32_t bit = 0; bit < 528; bit++)
         one_bit(&world, bit, bright ? 0 : 5);
     context("");

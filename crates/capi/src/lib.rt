@@ -1,7 +1,7 @@
 // The C interface, include/lp586x.h.
 //
 // A record is 1,819 bytes in the caller's memory and a chip 911. A call works on them where they stand: it lends their parts to the
-// functions of host, update and chip, and what changes is stored there and nothing else. It answers 0 or the number of its
+// functions of host, update, faults and chip, and what changes is stored there and nothing else. It answers 0 or the number of its
 // refusal; bytes of another size are refused as an unsound record is. A slice is a pointer and a length in C.
 mod lists;
 mod records;

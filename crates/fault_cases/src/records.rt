@@ -1,5 +1,5 @@
 // The records that the examples are read on. Lamps are lit by calls on the settings, as a program lights them, and the image is such settings:
-// what an update makes of it. The record's own settings have another width and lamps of the other brightness, since the image alone counts.
+// what an update makes of it. Since the image alone counts, the record's own settings have another width, and bright lamps beside dim ones.
 use host::Record;
 
 // A new record of the member, all its levels 0, in a data mode: bits 2 and 1 of 001h, which is 5Eh at reset.

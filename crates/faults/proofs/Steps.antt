@@ -24,7 +24,7 @@ use Rattle.dots.specs.Dots.{wideOf, levelOf}
 use Rattle.host.specs.declared.Record.{Record}
 use Rattle.faults.specs.Faults.{faultByte, bitSet, isSet, testedFrom, isDim, hasDot, lampReading, reading, readings, someBelow, isFaulty, someFaulty, opensAgree, shortsAgree, faultsChecked, answerNumbers, answered, faultsAnswer, faultsResult}
 use Rattle.faults.specs.FaultLaws.{Taken, faults-taken}
-use Rattle.faults.specs.Passes.{bitsReading, ReadTo, unlessDim, testedAt}
+use Rattle.faults.specs.Passes.{byBits, bitsReading, ReadTo, unlessDim, testedAt}
 use Rattle.faults.specs.declared.Answer.{Answer}
 use Rattle.faults.specs.declared.Answer.the-variants.{Read, Refused}
 
@@ -55,11 +55,11 @@ faulty-bit f first m d bytes exists r ea eb ee er = er ∙ rw (ea, eb, sym ee) (
 reading-is : (m d : ℕ) (bytes : List ℕ) (exists : Bool) (opened shorted r : ℕ) → exists ≡ hasDot m d →
     opened ≡ cond (isFaulty Open m bytes d) 1 0 → shorted ≡ cond (isFaulty Short m bytes d) 1 0 →
     r ≡ cond exists (opened + 2 * shorted) 4 → r ≡ bitsReading m bytes d
-unfolding bitsReading lampReading isFaulty
+unfolding bitsReading byBits isFaulty
 reading-is m d bytes exists opened shorted r ee eo es er =
     er ∙ rw (eo, es, sym ee) (go exists (isSet Open bytes d) (isSet Short bytes d))
   where
-    go : (b o s : Bool) → cond b (cond (b && o) 1 0 + 2 * cond (b && s) 1 0) 4 ≡ cond b (lampReading o s false) 4
+    go : (b o s : Bool) → cond b (cond (b && o) 1 0 + 2 * cond (b && s) 1 0) 4 ≡ cond b (byBits o s) 4
     go true false false = refl
     go true true false = refl
     go true false true = refl
@@ -247,11 +247,11 @@ pub read-room : (f : ℕ → ℕ) (old new : List ℕ) → new ≡ filled f 0 19
 read-room f old new e h = rw (e, filled-length f 0 198 old) h
 
 both-readings : (m : ℕ) (image bytes : List ℕ) (d : ℕ) → unlessDim (isDim image d) (bitsReading m bytes d) ≡ reading m image bytes d
-unfolding unlessDim bitsReading reading lampReading
+unfolding unlessDim bitsReading byBits reading lampReading
 both-readings m image bytes d = go (hasDot m d) (isSet Open bytes d) (isSet Short bytes d)
   where
     go : (b o s : Bool) →
-        cond (eqb (cond b (lampReading o s false) 4) 0) (cond (isDim image d) 5 0) (cond b (lampReading o s false) 4)
+        cond (eqb (cond b (byBits o s) 4) 0) (cond (isDim image d) 5 0) (cond b (byBits o s) 4)
         ≡ cond b (lampReading o s (isDim image d)) 4
     go true false false = refl
     go true true false = refl

@@ -25,7 +25,7 @@ module _ (r : Record) (sound : soundOf r ≡ true) where
 
 -- "checks 14 first, and 1 never occurs there": a record of member 5, with 66 bytes and a buffer of 197, which stays
 member-5 : (answerNumbers (faultsAnswer (recordOf (headerOf 5 0 0) [] []) (replicate 66 0x00) (replicate 197 0xA5)) ≡ 14 ∷ [])
-    × (faultsResult (recordOf (headerOf 5 0 0) [] []) (replicate 67 0x00) (replicate 198 0xA5) ≡ replicate 198 0xA5)
+    × (faultsResult (recordOf (headerOf 5 0 0) [] []) (replicate 66 0x00) (replicate 197 0xA5) ≡ replicate 197 0xA5)
 unfolding faultsAnswer faultsResult faultsChecked whenSound soundOf opens openAnswer answered answerNumbers
 member-5 = (refl, refl)
 

@@ -188,7 +188,7 @@ module _ (m : ℕ) (image : List ℕ) where
     pub exists : hasDot m d ≡ true
     pub opened : isSet Open bytes d ≡ false
     pub shorted : isSet Short bytes d ≡ false
-    pub lit : isDim image d ≡ dim
+    pub level : isDim image d ≡ dim
 
   module _ (bytes : List ℕ) (d : ℕ) where
     clear-lamp : (dim : Bool) → reading m image bytes d ≡ cond dim 5 0 → ClearLamp bytes d dim
@@ -197,8 +197,8 @@ module _ (m : ℕ) (image : List ℕ) where
       where
         go : (b o s x y : Bool) → hasDot m d ≡ b → isSet Open bytes d ≡ o → isSet Short bytes d ≡ s → isDim image d ≡ x →
             cond b (lampReading o s x) 4 ≡ cond y 5 0 → ClearLamp bytes d y
-        go true false false true true eb eo es ex q = record { exists = eb; opened = eo; shorted = es; lit = ex }
-        go true false false false false eb eo es ex q = record { exists = eb; opened = eo; shorted = es; lit = ex }
+        go true false false true true eb eo es ex q = record { exists = eb; opened = eo; shorted = es; level = ex }
+        go true false false false false eb eo es ex q = record { exists = eb; opened = eo; shorted = es; level = ex }
         go true false false true false eb eo es ex q = absurd (omega arith)
         go true false false false true eb eo es ex q = absurd (omega arith)
         go true true false x true eb eo es ex q = absurd (omega arith)

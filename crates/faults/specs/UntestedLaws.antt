@@ -1,7 +1,7 @@
 -- Dim lamps: with none the readings are those by the bits alone, and what does not see them.
 -- Assumes nothing.
-use mathlib.Core.Path.{_≡_, refl}
-use mathlib.Core.Bool.{Bool, true, false, cond}
+use mathlib.Core.Path.{_≡_, refl, sym}
+use mathlib.Core.Bool.{Bool, true, false, false≢true}
 use mathlib.Core.Logic.{_⊎_, inl, inr}
 use mathlib.Core.List.{List}
 use Prim.Native.Nat.{ℕ, _<_, _≤_}
@@ -13,7 +13,7 @@ use Rattle.host.specs.declared.Record.{Record}
 use Rattle.host.specs.Record.{soundOf, whenSound}
 use Rattle.faults.specs.Faults.{testedFrom, isDim, isSet, hasDot, lampReading, reading, readings, faultsChecked, faultsAnswer}
 use Rattle.faults.specs.FaultLaws.{filled-same}
-use Rattle.faults.specs.Passes.{bitsReading}
+use Rattle.faults.specs.Passes.{byBits, bitsReading}
 
 -- ---- a lamp at or above the figure, and one below it
 
@@ -28,27 +28,29 @@ module _ (image : List ℕ) (d : ℕ) where
 
 -- ---- the reading of a lamp
 
+-- a lamp that is not dim, or has a bit set
+by-its-bits : (dim o s : Bool) → (dim ≡ false) ⊎ ((o ≡ true) ⊎ (s ≡ true)) → lampReading o s dim ≡ byBits o s
+unfolding lampReading byBits
+by-its-bits dim true false h = refl
+by-its-bits dim false true h = refl
+by-its-bits dim true true h = refl
+by-its-bits false false false h = refl
+by-its-bits true false false (inl e) = absurd (false≢true (sym e))
+by-its-bits true false false (inr (inl e)) = absurd (false≢true e)
+by-its-bits true false false (inr (inr e)) = absurd (false≢true e)
+
 module _ (m : ℕ) (image bytes : List ℕ) (d : ℕ) where
+  as-before : (isDim image d ≡ false) ⊎ ((isSet Open bytes d ≡ true) ⊎ (isSet Short bytes d ≡ true)) → reading m image bytes d ≡ bitsReading m bytes d
+  unfolding reading bitsReading
+  as-before h = rw (by-its-bits (isDim image d) (isSet Open bytes d) (isSet Short bytes d) h) refl
+
   -- one that is not dim reads as by its bits
   pub bright-reads : isDim image d ≡ false → reading m image bytes d ≡ bitsReading m bytes d
-  unfolding reading bitsReading
-  bright-reads e = rw e refl
+  bright-reads e = as-before (inl e)
 
   -- "A set bit reads as before.": however dim the lamp is
   pub set-reads : (isSet Open bytes d ≡ true) ⊎ (isSet Short bytes d ≡ true) → reading m image bytes d ≡ bitsReading m bytes d
-  unfolding reading bitsReading lampReading
-  set-reads (inl e) = rw e (go (hasDot m d) (isSet Short bytes d))
-    where
-      go : (b s : Bool) → cond b (lampReading true s (isDim image d)) 4 ≡ cond b (lampReading true s false) 4
-      go true true = refl
-      go true false = refl
-      go false s = refl
-  set-reads (inr e) = rw e (go (hasDot m d) (isSet Open bytes d))
-    where
-      go : (b o : Bool) → cond b (lampReading o true (isDim image d)) 4 ≡ cond b (lampReading o true false) 4
-      go true true = refl
-      go true false = refl
-      go false o = refl
+  set-reads h = as-before (inr h)
 
   -- "So does an absent dot."
   pub absent-as-before : hasDot m d ≡ false → reading m image bytes d ≡ bitsReading m bytes d
@@ -57,7 +59,7 @@ module _ (m : ℕ) (image bytes : List ℕ) (d : ℕ) where
 
 -- ---- the whole buffer
 
--- "at or above the figure": every lamp that the record's member has, in the chip image and its own data mode
+-- every lamp that the record's member has is at or above the figure, in the chip image and its own data mode
 abbrev pub NoneDim : Record → Type 0
 NoneDim r = (d : ℕ) → hasDot (r .header .member) d ≡ true → testedFrom (wideOf (r .image)) ≤ levelOf (r .image) d
 

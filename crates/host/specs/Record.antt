@@ -43,7 +43,7 @@ soundOf r =
 unfoldable pub mayWrite : Header → ℕ → Bool
 mayWrite h a = writableOf (h .member) a
 
--- "Every call but Open .. first refuses an unsound record with 14."
+-- "Every call but Open .. first refuses an unsound record with 14.": Faults too, since document 02, Q-2
 unfoldable pub whenSound : Record → Answer → Answer
 whenSound r answer = cond (soundOf r) answer (Refused Unsound)
 

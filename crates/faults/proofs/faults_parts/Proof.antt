@@ -40,7 +40,8 @@ shared-slice-read-read c =
     let all = c .before .before .before .before .before .before .before .before in
     let told = all .before .before .before in
     let args = told .before .before .before .before .before .before .before .args in
-    omega (arith, check-passed (recordOf (args .header) (args .settings .now) (args .image .now)) _ _ _ (told .before .before .checked .ensures) (told .enum-told .given .1) .bytes)
+    let r = recordOf (args .header) (args .settings .now) (args .image .now) in
+    omega (arith, check-passed r _ _ _ (told .before .before .checked .ensures) (told .enum-told .given .1) .bytes)
 
 read-requires : tie.Need-read-requires
 read-requires c κs = search needs
@@ -57,7 +58,8 @@ returns-2 c =
     let all = marked .before .before .before .before .before in
     let told = all .before .before .before in
     let args = told .before .before .before .before .before .before .before .args in
-    read-is (recordOf (args .header) (args .settings .now) (args .image .now)) (args .bytes .now) (args .result .now) _ (told .before .before .checked .ensures) _ _ (all .read-all .result .opens) (all .read-all .result .shorts) _
+    let r = recordOf (args .header) (args .settings .now) (args .image .now) in
+    read-is r (args .bytes .now) (args .result .now) _ (told .before .before .checked .ensures) _ _ (all .read-all .result .opens) (all .read-all .result .shorts) _
     (told .enum-told .given .1) (all .read-all .ensures .0) (marked .mark .ensures) (all .read-all .ensures .1 .0) (all .read-all .ensures .1 .1)
     (c .read .ensures)
 
