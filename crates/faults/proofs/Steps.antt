@@ -24,7 +24,8 @@ use Rattle.dots.specs.Dots.{wideOf, levelOf}
 use Rattle.host.specs.declared.Record.{Record}
 use Rattle.faults.specs.Faults.{faultByte, bitSet, isSet, testedFrom, isDim, hasDot, lampReading, reading, readings, someBelow, isFaulty, someFaulty, opensAgree, shortsAgree, faultsChecked, answerNumbers, answered, faultsAnswer, faultsResult}
 use Rattle.faults.specs.FaultLaws.{Taken, faults-taken}
-use Rattle.faults.specs.Passes.{byBits, bitsReading, ReadTo, unlessDim, testedAt}
+use Rattle.faults.specs.OldReadings.{byBits, bitsReading}
+use Rattle.faults.specs.Passes.{ReadTo, unlessDim, testedAt}
 use Rattle.faults.specs.declared.Answer.{Answer}
 use Rattle.faults.specs.declared.Answer.the-variants.{Read, Refused}
 

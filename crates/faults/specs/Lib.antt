@@ -1,4 +1,5 @@
 pub mod Faults
+pub mod OldReadings
 pub mod FaultLaws
 pub mod Passes
 pub mod UntestedLaws

@@ -1,25 +1,15 @@
 -- The two passes of the code: the readings by the bits alone, line by line, and then the dim lamps.
 -- Assumes nothing.
 use mathlib.Core.Path.{_≡_}
-use mathlib.Core.Bool.{Bool, true, false, cond}
+use mathlib.Core.Bool.{Bool, cond}
 use mathlib.Core.List.{List}
 use Prim.Native.Nat.{ℕ, _≤_}
 use lib.Dec.{ltb, eqb}
 use lib.ListN.{length, getD}
 use Rattle.map.specs.declared.dots.Field.the-variants.{Open, Short}
 use Rattle.map.specs.Lists.{filled}
-use Rattle.faults.specs.Faults.{isSet, isDim, hasDot, someBelow, isFaulty}
-
--- document 01's reading of a lamp, before there were untested ones: "0 sound, 1 open, 2 short, 3 both"
-unfoldable pub byBits : Bool → Bool → ℕ
-byBits false false = 0
-byBits true false = 1
-byBits false true = 2
-byBits true true = 3
-
--- and of a dot: "4 no such dot"
-unfoldable pub bitsReading : ℕ → List ℕ → ℕ → ℕ
-bitsReading m bytes d = cond (hasDot m d) (byBits (isSet Open bytes d) (isSet Short bytes d)) 4
+use Rattle.faults.specs.Faults.{isDim, someBelow, isFaulty}
+use Rattle.faults.specs.OldReadings.{bitsReading}
 
 -- the first d dots are read by their bits into the old buffer, and the open and the short ones among them are counted
 pub record ReadTo (m : ℕ) (bytes old result : List ℕ) (opens shorts d : ℕ) : Type 0 where

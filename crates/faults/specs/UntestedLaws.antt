@@ -13,7 +13,7 @@ use Rattle.host.specs.declared.Record.{Record}
 use Rattle.host.specs.Record.{soundOf, whenSound}
 use Rattle.faults.specs.Faults.{testedFrom, isDim, isSet, hasDot, lampReading, reading, readings, faultsChecked, faultsAnswer}
 use Rattle.faults.specs.FaultLaws.{filled-same}
-use Rattle.faults.specs.Passes.{byBits, bitsReading}
+use Rattle.faults.specs.OldReadings.{byBits, bitsReading, NoneDim}
 
 -- ---- a lamp at or above the figure, and one below it
 
@@ -58,10 +58,6 @@ module _ (m : ℕ) (image bytes : List ℕ) (d : ℕ) where
   absent-as-before e = rw e refl
 
 -- ---- the whole buffer
-
--- every lamp that the record's member has is at or above the figure, in the chip image and its own data mode
-abbrev pub NoneDim : Record → Type 0
-NoneDim r = (d : ℕ) → hasDot (r .header .member) d ≡ true → testedFrom (wideOf (r .image)) ≤ levelOf (r .image) d
 
 module _ (r : Record) (bytes result : List ℕ) where
   -- with no dim lamp the readings are the old ones, those by the bits alone

@@ -9,7 +9,8 @@ ghost use Rattle.map.specs.declared.dots.Field.the-variants.{Open, Short};
 ghost use Rattle.map.specs.Map.{linesOf, columnsOf};
 ghost use Rattle.map.specs.Lists.{filled};
 ghost use Rattle.faults.specs.Faults.{someFaulty};
-ghost use Rattle.faults.specs.Passes.{bitsReading, ReadTo};
+ghost use Rattle.faults.specs.OldReadings.{bitsReading};
+ghost use Rattle.faults.specs.Passes.{ReadTo};
 
 // Where the open bytes and the short bytes begin, behind 064h.
 const OPENS: usize = 0x065 - 0x064;
