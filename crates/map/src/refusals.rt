@@ -30,6 +30,10 @@ pub enum Refusal {
     FaultLength,
     // a record or a chip that is not sound
     Unsound,
+    // a round of under 12 or above 4,096 bus bytes
+    RoundLimit,
+    // a present record of a round on SPI, or whose pins are not its place
+    NotItsPlace,
     // an index of n or more, of a list of n transactions
     NoTransaction,
 }
@@ -51,6 +55,8 @@ pub fn refusal_number(refusal: Refusal) -> u8
         Refusal::ListSizes => 11,
         Refusal::FaultLength => 13,
         Refusal::Unsound => 14,
+        Refusal::RoundLimit => 15,
+        Refusal::NotItsPlace => 16,
         Refusal::NoTransaction => 26,
     }
 }

@@ -16,3 +16,5 @@ pub mod Covered
 pub mod Follow
 pub mod MachineLaws
 pub mod Again
+pub mod Portion
+pub mod PortionLaws

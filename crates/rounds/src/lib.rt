@@ -1,0 +1,25 @@
+// Four panels on one bus: a round sends each present chip a part of what waits for it, at most so many bus bytes in all.
+use host::Record;
+use update::ListAnswer;
+
+// Which of the four places have a panel that takes part.
+pub struct Present {
+    pub first: bool,
+    pub second: bool,
+    pub third: bool,
+    pub fourth: bool,
+}
+
+// The records of the four places.
+pub struct Records {
+    pub first: Record,
+    pub second: Record,
+    pub third: Record,
+    pub fourth: Record,
+}
+
+// The answer of a round, and the records that it gives back.
+pub struct Rounded {
+    pub answer: ListAnswer,
+    pub records: Records,
+}
