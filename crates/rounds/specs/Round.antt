@@ -17,6 +17,7 @@ use Rattle.update.specs.declared.ListAnswer.the-variants.{Listed, Refused}
 use Rattle.update.specs.Update.{isListed, over, writesOf}
 use Rattle.rounds.specs.declared.Present.{Present}
 use Rattle.rounds.specs.declared.Records.{Records}
+use Rattle.rounds.specs.declared.Rounded.{Rounded}
 
 -- ---- How B is dealt out: cs are the pending lists of the places
 
@@ -136,3 +137,12 @@ presentAt p = atPlace (p .first) (p .second) (p .third) (p .fourth)
 
 abbrev pub recordAt : Records → ℕ → Record
 recordAt r = atPlace (r .first) (r .second) (r .third) (r .fourth)
+
+-- the answer, and the four records that the call gives back
+unfoldable pub roundOf : Records → Present → ℕ → ℕ → Rounded
+roundOf r p limit size =
+    let after = roundRecord (presentAt p) (recordAt r) limit size in
+    record {
+      answer = roundAnswer (presentAt p) (recordAt r) limit size;
+      records = record { first = after 0; second = after 1; third = after 2; fourth = after 3 };
+    }
