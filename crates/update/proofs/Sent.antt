@@ -34,34 +34,9 @@ use Rattle.update.specs.Update.{listSize, writesOf, updating, updateAnsw
 use Rattle.update.specs.SendLaws.{Leaves, send-unsound, send-short, send-listed}
 use Rattle.update.specs.UpdateLaws.{enable-byte, image-layout}
 use Rattle.update.specs.Pieces.{enableCount, enableWrites, planCount, planned, pending, ListSizes}
+use Rattle.update.specs.PieceLaws.{enable-length, enable-cost, enable-inside, pending-inside, writes-are}
 
--- ---- enable_count and list_sizes
-
-module _ (settings image : List ℕ) where
-  abbrev count : ℕ
-  count = enableCount (onBy (valueAt settings)) (seen (valueAt settings) (valueAt image))
-
-  by : (x y : Bool) → onBy (valueAt settings) ≡ x → onBy (valueAt image) ≡ y → count ≡ enableCount x (record { sure = y; perhaps = y; same = sameAt (valueAt settings) (valueAt image) })
-  by x y ex ey = rw (ex, ey) refl
-
-  pub enable-same : getD settings 0 0 % 2 ≡ getD image 0 0 % 2 → (0 ≡ count) × (0 ≤ 1)
-  unfolding enableCount
-  enable-same e = (sym (by b b (ap (λ (x : ℕ). eqb x 1) e) refl ∙ go b), omega arith)
-    where
-      b : Bool
-      b = eqb (getD image 0 0 % 2) 1
-
-      go : (b : Bool) → enableCount b (record { sure = b; perhaps = b; same = sameAt (valueAt settings) (valueAt image) }) ≡ 0
-      go true = refl
-      go false = refl
-
-  pub enable-other : (getD settings 0 0 % 2 ≡ getD image 0 0 % 2 → ⊥) → (1 ≡ count) × (1 ≤ 1)
-  unfolding enableCount
-  enable-other n = (sym (go (ℕ-discrete (getD settings 0 0 % 2) 1)), omega arith)
-    where
-      go : Dec (getD settings 0 0 % 2 ≡ 1) → count ≡ 1
-      go (yes e) = by true false (eq-eqb _ 1 e) (ne-eqb _ 1 (λ q. n (e ∙ sym q)))
-      go (no e) = by false true (ne-eqb _ 1 e) (eq-eqb (getD image 0 0 % 2) 1 (omega arith))
+-- ---- list_sizes
 
 module _ (r : Record) (first : ℕ) (f : (first ≡ enableCount (onBy (valueAt (r .settings))) (chipView r)) × (first ≤ 1)) where
   pub sizes-off : (getD (r .settings) 0 0 % 2 ≡ 1 → ⊥) → ListSizes r first first (3 * first)
@@ -93,21 +68,6 @@ module _ (r : Record) (first : ℕ) (f : (first ≡ enableCount (onBy (valueAt (
       }
 
 -- ---- the write of 000h
-
-enable-length : (first : ℕ) → first ≤ 1 → length (enableWrites first) ≡ first
-unfolding enableWrites
-enable-length zero h = refl
-enable-length (suc k) h = omega arith
-
-enable-cost : (first : ℕ) → first ≤ 1 → cost (enableWrites first) ≡ 3 * first
-unfolding enableWrites
-enable-cost zero h = refl
-enable-cost (suc k) h = omega arith
-
-enable-inside : (settings : List ℕ) (first : ℕ) → length settings ≡ 908 → Inside settings (enableWrites first)
-unfolding enableWrites
-enable-inside settings zero h = tt
-enable-inside settings (suc k) h = (omega arith, tt)
 
 module _ (h : Header) (settings image old front : List ℕ) (first n t : ℕ) (e : front ≡ sets old 0 (sizeBytes n ++ sizeBytes t)) where
   abbrev Fronted : List ℕ → List ℕ → Type 0
@@ -206,42 +166,6 @@ module _ (r : Record) (first n t : ℕ) (z : ListSizes r first n t) where
       ∙ ap₂ (λ (k : ℕ) (i : List ℕ). storeWrites (r .settings) (planned r k) i) left e₁
       ∙ sym (stores-append (r .settings) (enableWrites first) (planned r (planCount r)) i₀)
 
--- ---- the list by document 01
-
-module _ (ok : ℕ → Bool) (settings : List ℕ) (v : View) (size : length settings ≡ 908) (small : getD settings 0 0 ≤ 1) where
-  abbrev on : Bool
-  on = onBy (valueAt settings)
-
-  abbrev ws : List Write
-  ws = plan (marksFor ok (v .same)) 908
-
-  -- the settings' byte, which the write of 000h sends
-  enable-data : (k : ℕ) → getD settings 0 0 ≡ k → record { start = 0x000; bytes = k ∷ [] } ≡ dataOf settings (record { start = 0x000; len = 1 })
-  enable-data k e = ap (λ (l : List ℕ). record { start = 0x000; bytes = l }) (sym (take-suc settings 0 0 (omega arith) ∙ ap (λ (x : ℕ). x ∷ []) e))
-
-  -- what is known of the chip may be anything
-  writes-by : updateFor ok 908 settings v ≡ map (dataOf settings) (enableWrites (enableCount on v) ++ take (cond on (length ws) 0) ws)
-  unfolding updateFor enableCount enableWrites
-  writes-by = go on refl (v .sure) refl (v .perhaps) refl
-    where
-      bs : List Burst
-      bs = map (dataOf settings) ws
-
-      all : map (dataOf settings) (take (length ws) ws) ≡ bs
-      all = ap (map (dataOf settings)) (take-length ws)
-
-      go : (w : Bool) → on ≡ w → (s : Bool) → v .sure ≡ s → (c : Bool) → v .perhaps ≡ c →
-          updateFor ok 908 settings v ≡ map (dataOf settings) (enableWrites (enableCount on v) ++ take (cond on (length ws) 0) ws)
-      go true e true es c ec = rw (e, es) (sym all)
-      go true e false es c ec = rw (e, es) (ap₂ _∷_ (enable-data 1 (one-is (getD settings 0 0) e small)) (sym all))
-      go false e s es true ec = rw (e, ec) (ap (λ (x : Burst). x ∷ []) (enable-data 0 (zero-is (getD settings 0 0) e small)))
-      go false e s es false ec = rw (e, ec) refl
-
-all-take : {A : Type 0} (P : A → Type 0) (k : ℕ) (xs : List A) → All P xs → All P (take k xs)
-all-take P zero xs h = tt
-all-take P (suc k) [] h = tt
-all-take P (suc k) (x ∷ xs) h = (h .0, all-take P k xs (h .1))
-
 -- what a sound record's update sends
 pub record Sends (r : Record) (first n t : ℕ) : Type 0 where
   pub n-is : length (writesOf r) ≡ n
@@ -250,7 +174,6 @@ pub record Sends (r : Record) (first n t : ℕ) : Type 0 where
   pub stored-is : storeAll (writesOf r) (r .image) ≡ storeWrites (r .settings) (pending r first) (r .image)
 
 pub sends : (r : Record) → Sound r → (first n t : ℕ) → ListSizes r first n t → Sends r first n t
-unfolding writesOf planCount
 sends r s first n t z = record {
   n-is = ap length are ∙ length-map ws (dataOf (r .settings)) ∙ pending-length r first n t z;
   t-is = ap busBytes are ∙ writes-cost (r .settings) ws inside ∙ pending-cost r first n t z;
@@ -261,27 +184,11 @@ sends r s first n t z = record {
     ws : List Write
     ws = pending r first
 
-    size : length (r .settings) ≡ 908
-    size = s .settings .size
-
-    layout : Layout (mayWrite (r .header)) 908 (r .settings)
-    layout = image-layout (r .header) (r .settings) (s .settings)
-
-    fits : (w : Write) → Good (mayWrite (r .header)) 908 w → w .start + w .len ≤ length (r .settings)
-    fits w g = omega (arith, g .fits, size)
-
     inside : Inside (r .settings) (pending r first)
-    inside =
-        all-append (λ (w : Write). w .start + w .len ≤ length (r .settings)) (enableWrites first) (planned r (planCount r)) (enable-inside (r .settings) first size)
-        (all-take (λ (w : Write). w .start + w .len ≤ length (r .settings)) (planCount r) (plan (marksOf r) 908)
-        (all-weaken (Good (mayWrite (r .header)) 908) (λ (w : Write). w .start + w .len ≤ length (r .settings)) fits (plan (marksOf r) 908)
-        (plan-ok (mayWrite (r .header)) 908 (r .settings) layout (chipView r))))
+    inside = pending-inside r s first
 
     are : writesOf r ≡ map (dataOf (r .settings)) ws
-    are =
-        writes-by (mayWrite (r .header)) (r .settings) (chipView r) size
-        (enable-byte (r .header .member) (getD (r .settings) 0 0) (s .settings .member) (s .settings .fits 0 (omega arith)))
-        ∙ ap (λ (k : ℕ). map (dataOf (r .settings)) (pending r k)) (sym (z .first-is))
+    are = writes-are r s ∙ ap (λ (k : ℕ). map (dataOf (r .settings)) (pending r k)) (sym (z .first-is))
 
 -- ---- update_parts
 

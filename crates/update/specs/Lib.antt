@@ -4,3 +4,4 @@ pub mod SendLaws
 pub mod UpdateLaws
 pub mod BoundLaws
 pub mod UpdateExamples
+pub mod PieceLaws

@@ -4,3 +4,4 @@ pub mod FoundLaws
 pub mod Written
 pub mod WrittenLaws
 pub mod WholeLaws
+pub mod PutLaws

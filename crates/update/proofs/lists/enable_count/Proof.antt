@@ -1,6 +1,6 @@
 -- `update::lists::enable_count` meets its contract.
 -- Assumes nothing.
-use Rattle.update.proofs.Sent.{enable-same, enable-other}
+use Rattle.update.specs.PieceLaws.{enable-same, enable-other}
 use borrow.Author.Needs.{needs}
 use Rattle.update.proofs.lists.enable_count.Statement.{statement}
 use Rattle.update.proofs.lists.enable_count.Tie as tie

@@ -81,10 +81,10 @@ loop-again c =
     )
 
 same-length : tie.Need-same-length Inv-loop μ-loop
-same-length c = c .before .loop .inv .3 .size
+same-length c = c .before .loop .inv .3 .put .size
 
 same-length-2 : tie.Need-same-length-2 Inv-loop μ-loop
-same-length-2 c = c .before .loop .inv .3 .image-size
+same-length-2 c = c .before .loop .inv .3 .put .image-size
 
 returns : tie.Need-returns Inv-loop μ-loop
 returns c =
