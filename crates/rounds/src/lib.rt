@@ -1,4 +1,6 @@
 // Four panels on one bus: a round sends each present chip a part of what waits for it, at most so many bus bytes in all.
+mod parts;
+
 ghost use mathlib.Core.Path.{_≡_};
 ghost use lib.ListN.{length};
 ghost use Rattle.rounds.specs.Round.{presentAt, recordAt, roundBuffer, roundOf};

@@ -1,0 +1,2 @@
+mod Waiting
+mod Portions
