@@ -1,3 +1,6 @@
 pub mod Round
 pub mod ListLaws
 pub mod DealLaws
+pub mod AcceptLaws
+pub mod AbsentLaws
+pub mod RoundExamples
