@@ -312,7 +312,7 @@ cut-back before (x ∷ xs) q e =
     (rw (drop-at before (x ++ joined xs) q e) (take-append-seam x (joined xs)))
     (rw (append-assoc before x (joined xs)) at (cut-back (before ++ x) xs (q + length x) size))
 
-list-length : (xs : List (List ℕ)) → length (listOf xs) ≡ 4 + 2 * length xs + sum (map length xs)
+pub list-length : (xs : List (List ℕ)) → length (listOf xs) ≡ 4 + 2 * length xs + sum (map length xs)
 unfolding listOf
 list-length xs =
     omega (
@@ -327,11 +327,11 @@ module _ (xs : List (List ℕ)) (least : allAtLeast3 (map length xs) ≡ true) (
   few : length xs < 65536
   few = omega (arith, thrice (map length xs) least, length-map xs length)
 
-  list-n : nOf (listOf xs) ≡ length xs
+  pub list-n : nOf (listOf xs) ≡ length xs
   unfolding nOf listOf
   list-n = size-at [] (sizeBytes (sum (map length xs)) ++ (sizesBytes (map length xs) ++ joined xs)) (length xs) 0 refl few
 
-  list-t : tOf (listOf xs) ≡ sum (map length xs)
+  pub list-t : tOf (listOf xs) ≡ sum (map length xs)
   unfolding tOf listOf
   list-t = size-at (sizeBytes (length xs)) (sizesBytes (map length xs) ++ joined xs) (sum (map length xs)) 2 refl short
 
@@ -341,7 +341,7 @@ module _ (xs : List (List ℕ)) (least : allAtLeast3 (map length xs) ≡ true) (
       ap (lengthsFrom (listOf xs) 4) (list-n ∙ sym (length-map xs length))
       ∙ lengths-back (sizeBytes (length xs) ++ sizeBytes (sum (map length xs))) (map length xs) (joined xs) 4 refl short
 
-  list-sizes : sizesGood (listOf xs) ≡ true
+  pub list-sizes : sizesGood (listOf xs) ≡ true
   unfolding sizesGood lengthsGood
   list-sizes =
       simp (
@@ -354,7 +354,7 @@ module _ (xs : List (List ℕ)) (least : allAtLeast3 (map length xs) ≡ true) (
         eq-eqb (length (listOf xs)) (4 + 2 * length xs + sum (map length xs)) (list-length xs),
       )
 
-  list-transactions : transactions (listOf xs) ≡ xs
+  pub list-transactions : transactions (listOf xs) ≡ xs
   unfolding transactions listOf
   list-transactions =
       rw (list-n, list-lengths)
@@ -369,11 +369,11 @@ pub record Sendable (bs : List Burst) : Type 0 where
   pub short : busBytes bs < 65536
 
 module _ (bus pins : ℕ) where
-  writes-sum : (bs : List Burst) → sum (map length (map (transactionOf bus pins) bs)) ≡ busBytes bs
+  pub writes-sum : (bs : List Burst) → sum (map length (map (transactionOf bus pins) bs)) ≡ busBytes bs
   writes-sum [] = refl
   writes-sum (b ∷ bs) = omega (arith, writes-sum bs, transaction-parts bus pins b .size)
 
-  writes-least : (bs : List Burst) → AllData bs → allAtLeast3 (map length (map (transactionOf bus pins) bs)) ≡ true
+  pub writes-least : (bs : List Burst) → AllData bs → allAtLeast3 (map length (map (transactionOf bus pins) bs)) ≡ true
   writes-least [] h = refl
   writes-least (b ∷ bs) h =
       rw (le-leb 3 (length (transactionOf bus pins b)) (omega (arith, transaction-parts bus pins b .size, h .0))) (writes-least bs (h .1))

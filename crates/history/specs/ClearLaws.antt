@@ -2,7 +2,7 @@
 -- Assumes nothing.
 use mathlib.Core.Path.{_≡_, refl, sym, ap, ap₂, _∙_, subst}
 use mathlib.Core.Bool.{true, false, false≢true}
-use mathlib.Core.List.{List, [], _∷_, map, map-append}
+use mathlib.Core.List.{List, [], _∷_, _++_, map}
 use Prim.Native.Nat.{ℕ, _≤_}
 use native.Mathlib.Omega.{arith}
 use lib.ListN.{length}
@@ -24,10 +24,10 @@ use Rattle.history.specs.declared.World.{World}
 use Rattle.history.specs.Ledger.{Told, toldOf, entries, ledger}
 use Rattle.history.specs.LedgerLaws.{entries-append}
 use Rattle.history.specs.Step.{fedBy, clearStep}
-use Rattle.history.specs.History.{Call, start, run, ledgerAfter}
-use Rattle.history.specs.WorldLaws.{front, Holds, Follows, chip-sound, start-holds, sent-holds, run-holds, told-calls}
+use Rattle.history.specs.History.{Call, Event, call, part, start, run, ledgerAfter}
+use Rattle.history.specs.WorldLaws.{front, Holds, Follows, chip-sound, start-holds, sent-holds, run-holds, callsIn, told-calls}
 use Rattle.history.specs.Theorem.{holds-owes, opened}
-use Rattle.history.specs.Clear.{Paired, ClearClaim, Stretch, runClears, callsOf, ClearedLists}
+use Rattle.history.specs.Clear.{Paired, ClearClaim, Stretch, runClears, eventsOf, ClearedLists}
 
 -- ---- the chip after a Clear
 
@@ -71,14 +71,14 @@ clear-claim w p buffer h = (
     twice : (a b : Burst) → feeds b (feeds a (w .chip)) ≡ fed (fed (w .chip) a) b
     twice a b = ap (feeds b) (own w p a (w .chip) refl refl) ∙ own w p b (fed (w .chip) a) refl refl
 
--- ---- Clears among the calls of demand 3
+-- ---- Clears among the events of demand 3
 
 -- no address from 064h to 0A6h is writable
 apart : (m a : ℕ) → writableOf m a ≡ true → 0x064 ≤ a → a ≤ 0x0A6 → ⊥
 apart m a k l h = false≢true (sym (middle-unwritable m a l (omega arith)) ∙ k)
 
 module _ (m b p : ℕ) (o : opens m b p ≡ true) where
-  -- a Clear keeps what holds after every call
+  -- a Clear keeps what holds after every event
   clear-holds : (s : List ℕ) (w : World) → Holds m b p s w → (buffer : List ℕ) → Holds m b p s (clearStep w buffer .world)
   clear-holds s w h buffer =
       let host : Record = recordOf (headerOf m b p) s (h .image) in
@@ -93,22 +93,28 @@ module _ (m b p : ℕ) (o : opens m b p ≡ true) where
       } in
       subst (λ (x : World). Holds m b p s (clearStep x buffer .world)) (sym (h .is)) (sent-holds m b p o s w h (clearing host) follows buffer)
 
-  abbrev tells : List Call → List Told
-  tells = map (λ (c : Call). toldOf (c .request) (c .lent))
+  -- what the ledger is told of events, whatever the world
+  abbrev tells : List Event → List Told
+  tells es = map (λ (c : Call). toldOf (c .request) (c .lent)) (callsIn es)
 
-  stretches-hold : (xs : List Stretch) (s : List ℕ) (w : World) → Holds m b p s w → Holds m b p (entries m s (tells (callsOf xs))) (runClears w xs)
+  tells-append : (xs ys : List Event) → tells (xs ++ ys) ≡ tells xs ++ tells ys
+  tells-append [] ys = refl
+  tells-append (call c ∷ xs) ys = ap (λ (l : List Told). toldOf (c .request) (c .lent) ∷ l) (tells-append xs ys)
+  tells-append (part room ∷ xs) ys = tells-append xs ys
+
+  stretches-hold : (xs : List Stretch) (s : List ℕ) (w : World) → Holds m b p s w → Holds m b p (entries m s (tells (eventsOf xs))) (runClears w xs)
   stretches-hold [] s w h = h
   stretches-hold (x ∷ xs) s w h =
-      let ran : Holds m b p (entries m s (tells (x .calls))) (run w (x .calls)) =
-      subst (λ (l : List Told). Holds m b p (entries m s l) (run w (x .calls))) (told-calls (x .calls) w) (run-holds m b p o (x .calls) s w h) in
-      let rest = stretches-hold xs (entries m s (tells (x .calls))) (clearStep (run w (x .calls)) (x .buffer) .world) (clear-holds _ _ ran (x .buffer)) in
+      let ran : Holds m b p (entries m s (tells (x .events))) (run w (x .events)) =
+      subst (λ (l : List Told). Holds m b p (entries m s l) (run w (x .events))) (told-calls (x .events) w) (run-holds m b p o (x .events) s w h) in
+      let rest = stretches-hold xs (entries m s (tells (x .events))) (clearStep (run w (x .events)) (x .buffer) .world) (clear-holds _ _ ran (x .buffer)) in
       subst (λ (l : List ℕ). Holds m b p l (runClears w (x ∷ xs)))
-      (sym (ap (entries m s) (map-append _ (x .calls) (callsOf xs)) ∙ entries-append m (tells (x .calls)) (tells (callsOf xs)) s)) rest
+      (sym (ap (entries m s) (tells-append (x .events) (eventsOf xs)) ∙ entries-append m (tells (x .events)) (tells (eventsOf xs)) s)) rest
 
 pub cleared-lists : ClearedLists
 cleared-lists m b p e xs behind =
     let o = opened m b p e in
-    holds-owes m b p o (ledgerAfter m b p (callsOf xs)) (runClears (start m b p) xs)
-    (subst (λ (l : List Told). Holds m b p (ledger m l) (runClears (start m b p) xs)) (sym (told-calls (callsOf xs) (start m b p)))
+    holds-owes m b p o (ledgerAfter m b p (eventsOf xs)) (runClears (start m b p) xs)
+    (subst (λ (l : List Told). Holds m b p (ledger m l) (runClears (start m b p) xs)) (sym (told-calls (eventsOf xs) (start m b p)))
     (stretches-hold m b p o xs (resetImage m) (start m b p) (start-holds m b p o)))
     behind

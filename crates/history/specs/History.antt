@@ -1,5 +1,5 @@
 -- Demand 3, a claim about whole lists of calls: document 01, "The ledger and whole lists". m, b and p are the member, bus and pins
--- that Open was given. Quotations are of document 01, but for those that are marked as the wording of demand 3 itself.
+-- that Open was given. Quotations are of document 01, but for those that are marked as the wording of demand 3 itself or of Q-3, document 02.
 -- Assumes nothing.
 use mathlib.Core.Path.{_≡_}
 use mathlib.Core.Bool.{true}
@@ -9,51 +9,62 @@ use lib.ListN.{length, getD}
 use Rattle.map.specs.Refusals.{accepted}
 use Rattle.map.specs.Map.{writableOf}
 use Rattle.map.specs.Images.{resetImage}
-use Rattle.burst.specs.Burst.{burstOf, nOf, tOf, transactions}
+use Rattle.burst.specs.Burst.{burstOf, nOf, tOf, transactions, encode}
 use Rattle.calls.specs.declared.Request.{Request}
 use Rattle.calls.specs.declared.Request.the-variants.{Update}
 use Rattle.host.specs.declared.Header.{Header}
 use Rattle.host.specs.Record.{mayWrite, openOf}
 use Rattle.update.specs.declared.ListAnswer.the-variants.{Listed}
+use Rattle.update.specs.Update.{writesOf}
 use Rattle.chip.specs.declared.decode.Transaction.the-variants.{Write}
 use Rattle.chip.specs.Chip.{atResetOf, decodeOf, feedOf}
 use Rattle.history.specs.declared.World.{World}
 use Rattle.history.specs.declared.CallAnswer as answers
 use Rattle.history.specs.Ledger.{Told, toldOf, entries, ledger, wantsOn}
-use Rattle.history.specs.Step.{listIn, stepOf}
+use Rattle.history.specs.Step.{listIn, stepOf, partOf, partStep}
 
--- ---- Lists of calls
+-- ---- Lists of events
 
 -- "each with any arguments and with bytes or a buffer of its own."
 pub record Call : Type 0 where
   pub request : Request
   pub lent : List ℕ
 
+-- Q-3: "Demand 3's list may hold rounds": to one panel a round that it is in is a part, its portion within some number of bytes.
+pub data Event : Type 0 where
+  call : Call → Event
+  part : ℕ → Event
+
+abbrev pub eventStep : World → Event → World
+eventStep w (call c) = stepOf w (c .request) (c .lent) .world
+eventStep w (part room) = partStep w room
+
 -- "The first gets the record of an accepted Open," and a chip of the same member, bus and pins at reset values;
 abbrev pub start : ℕ → ℕ → ℕ → World
 start m b p = record { host = openOf m b p .host; chip = atResetOf m b p .chip }
 
 -- "each next one the record the last one returned, refused or not; nobody else writes it."
-abbrev pub run : World → List Call → World
+abbrev pub run : World → List Event → World
 run w [] = w
-run w (c ∷ cs) = run (stepOf w (c .request) (c .lent) .world) cs
+run w (e ∷ es) = run (eventStep w e) es
 
--- the record and its chip after these calls
-abbrev pub worldAfter : ℕ → ℕ → ℕ → List Call → World
-worldAfter m b p calls = run (start m b p) calls
+-- the record and its chip after these events
+abbrev pub worldAfter : ℕ → ℕ → ℕ → List Event → World
+worldAfter m b p events = run (start m b p) events
 
 -- What the ledger is told of a call on the world w: "all their arguments but the record, and never an answer."
 abbrev pub tell : World → Call → Told
 tell w c = toldOf (c .request) (c .lent)
 
--- "the calls in order": of each next one on the world that the last one left
-abbrev pub told : World → List Call → List Told
+-- "the calls in order": of each next one on the world that the last one left. It hears nothing of parts.
+abbrev pub told : World → List Event → List Told
 told w [] = []
-told w (c ∷ cs) = tell w c ∷ told (stepOf w (c .request) (c .lent) .world) cs
+told w (call c ∷ es) = tell w c ∷ told (eventStep w (call c)) es
+told w (part room ∷ es) = told (eventStep w (part room)) es
 
--- the ledger's bytes after these calls
-abbrev pub ledgerAfter : ℕ → ℕ → ℕ → List Call → List ℕ
-ledgerAfter m b p calls = ledger m (told (start m b p) calls)
+-- the ledger's bytes after these events
+abbrev pub ledgerAfter : ℕ → ℕ → ℕ → List Event → List ℕ
+ledgerAfter m b p events = ledger m (told (start m b p) events)
 
 -- ---- Addresses and rivals
 
@@ -62,7 +73,7 @@ abbrev pub SameWritable : ℕ → List ℕ → List ℕ → Type 0
 SameWritable m x y = (a : ℕ) → writableOf m a ≡ true → getD x a 0 ≡ getD y a 0
 
 -- A transaction x is "a write to this chip and each data byte, heard or not, for a writable address", one that may be written by the
--- record's header h (`may-write-after` of WorldLaws: after any list of calls these are the member's writable ones). `burstOf` has the
+-- record's header h (`may-write-after` of WorldLaws: after any list of events these are the member's writable ones). `burstOf` has the
 -- address of the head and the data behind it.
 pub record Allowed (b p : ℕ) (h : Header) (x : List ℕ) : Type 0 where
   pub write : decodeOf b p (getD x 0 0) (getD x 1 0) ≡ Write (burstOf b x .start)
@@ -91,10 +102,10 @@ UpdateAnswers w buffer n t = stepOf w Update buffer .answer ≡ answers.the-vari
 abbrev pub updateList : World → List ℕ → ℕ → ℕ → List ℕ
 updateList w buffer n t = listIn n t (stepOf w Update buffer .lent)
 
--- The calls, of which the first gets the world w, are those `before`, an Update with this buffer that answers n and t, and those
+-- The events, of which the first gets the world w, are those `before`, an Update with this buffer that answers n and t, and those
 -- `behind` it.
-pub record Updates (w : World) (calls before behind : List Call) (buffer : List ℕ) (n t : ℕ) : Type 0 where
-  pub calls-are : calls ≡ before ++ (record { request = Update; lent = buffer } ∷ behind)
+pub record Updates (w : World) (events before behind : List Event) (buffer : List ℕ) (n t : ℕ) : Type 0 where
+  pub events-are : events ≡ before ++ (call (record { request = Update; lent = buffer }) ∷ behind)
   pub answers : UpdateAnswers (run w before) buffer n t
 
 module _ (m b p : ℕ) where
@@ -112,16 +123,23 @@ module _ (m b p : ℕ) where
     pub own-count : nOf list ≡ n
     pub own-bytes : tOf list ≡ t
 
-  -- "Demand 3 is a single claim about the whole list, not one for each call." The first call gets the world w, and the ledger then has
+  -- "Demand 3 is a single claim about the whole list, not one for each call." The first event gets the world w, and the ledger then has
   -- the bytes s.
-  pub record Demand3 (s : List ℕ) (w : World) (calls : List Call) : Type 0 where
+  pub record Demand3 (s : List ℕ) (w : World) (events : List Event) : Type 0 where
     -- demand 3: "no update names an address outside the member's writable ones": no accepted Update, wherever it stands
-    pub names : (before behind : List Call) (buffer : List ℕ) (n t : ℕ) → Updates w calls before behind buffer n t →
+    pub names : (before behind : List Event) (buffer : List ℕ) (n t : ℕ) → Updates w events before behind buffer n t →
         AllAllowed b p (run w before .host .header) (transactions (updateList (run w before) buffer n t))
-    -- demand 3: "and if the last call is an accepted update"
-    pub last : (before : List Call) (buffer : List ℕ) (n t : ℕ) → Updates w calls before [] buffer n t →
-        Owed (entries m s (told w calls)) (run w before) (run w calls) (updateList (run w before) buffer n t) n t
+    -- and no part, wherever it stands
+    pub part-names : (before behind : List Event) (room : ℕ) → events ≡ before ++ (part room ∷ behind) →
+        AllAllowed b p (run w before .host .header) (transactions (encode b p (partOf (run w before) room)))
+    -- demand 3: "and if the last call is an accepted update"; Q-3: "the fewest-bytes rule then covers plain updates only"
+    pub last : (before : List Event) (buffer : List ℕ) (n t : ℕ) → Updates w events before [] buffer n t →
+        Owed (entries m s (told w events)) (run w before) (run w events) (updateList (run w before) buffer n t) n t
+    -- Q-3: "but the register values are owed once a chip wanted on is finished", whatever the last event was. "A chip is finished when its
+    -- pending list is empty."
+    pub finished : writesOf (run w events .host) ≡ [] → wantsOn (entries m s (told w events)) ≡ true →
+        SameWritable m (run w events .chip .registers) (entries m s (told w events))
 
--- for every list of calls after every Open that is accepted; the ledger's bytes "begin at that member's reset values."
+-- for every list of events after every Open that is accepted; the ledger's bytes "begin at that member's reset values."
 abbrev pub WholeLists : Type 0
-WholeLists = (m b p : ℕ) → accepted (openOf m b p .answer) ≡ true → (calls : List Call) → Demand3 m b p (resetImage m) (start m b p) calls
+WholeLists = (m b p : ℕ) → accepted (openOf m b p .answer) ≡ true → (events : List Event) → Demand3 m b p (resetImage m) (start m b p) events

@@ -15,9 +15,10 @@ use Rattle.map.specs.PlaceLaws.{dot-member}
 use Rattle.map.specs.WritableLaws.{carries-writable}
 use Rattle.dots.specs.Dots.{levelOf, fieldOf, wideOf}
 use Rattle.host.specs.Record.{openOf}
+use Rattle.update.specs.Update.{writesOf}
 use Rattle.history.specs.declared.World.{World}
 use Rattle.history.specs.Ledger.{entries, wantsOn}
-use Rattle.history.specs.History.{Call, start, run, worldAfter, told, ledgerAfter, SameWritable, Updates, Demand3}
+use Rattle.history.specs.History.{Event, start, run, worldAfter, told, ledgerAfter, SameWritable, Updates, Demand3}
 use Rattle.history.specs.Theorem.{whole-lists}
 
 -- two images say the same of the dot at line l, sink s: its level, each read in the image's own data mode, its group and its switch
@@ -41,14 +42,21 @@ same-lamp m x y e l s d =
     }
 
 -- so that demand 3 says it of every lamp
-pub lamps-owed : (m b p : ℕ) (s : List ℕ) (w : World) (calls : List Call) → Demand3 m b p s w calls → (before : List Call) (buffer : List ℕ) (n t : ℕ) →
-    Updates w calls before [] buffer n t → wantsOn (entries m s (told w calls)) ≡ true → (l k : ℕ) → isDot m l k ≡ true →
-    SameLamp (run w calls .chip .registers) (entries m s (told w calls)) l k
-lamps-owed m b p s w calls d before buffer n t u on =
-    same-lamp m (run w calls .chip .registers) (entries m s (told w calls)) (d .last before buffer n t u .values on)
+pub lamps-owed : (m b p : ℕ) (s : List ℕ) (w : World) (events : List Event) → Demand3 m b p s w events → (before : List Event) (buffer : List ℕ) (n t : ℕ) →
+    Updates w events before [] buffer n t → wantsOn (entries m s (told w events)) ≡ true → (l k : ℕ) → isDot m l k ≡ true →
+    SameLamp (run w events .chip .registers) (entries m s (told w events)) l k
+lamps-owed m b p s w events d before buffer n t u on =
+    same-lamp m (run w events .chip .registers) (entries m s (told w events)) (d .last before buffer n t u .values on)
 
 -- No lamp is stale: each one reads from the chip what the ledger says.
-pub no-lamp-stale : (m b p : ℕ) → accepted (openOf m b p .answer) ≡ true → (calls before : List Call) (buffer : List ℕ) (n t : ℕ) →
-    Updates (start m b p) calls before [] buffer n t → wantsOn (ledgerAfter m b p calls) ≡ true → (l s : ℕ) → isDot m l s ≡ true →
-    SameLamp (worldAfter m b p calls .chip .registers) (ledgerAfter m b p calls) l s
-no-lamp-stale m b p o calls = lamps-owed m b p (resetImage m) (start m b p) calls (whole-lists m b p o calls)
+pub no-lamp-stale : (m b p : ℕ) → accepted (openOf m b p .answer) ≡ true → (events before : List Event) (buffer : List ℕ) (n t : ℕ) →
+    Updates (start m b p) events before [] buffer n t → wantsOn (ledgerAfter m b p events) ≡ true → (l s : ℕ) → isDot m l s ≡ true →
+    SameLamp (worldAfter m b p events .chip .registers) (ledgerAfter m b p events) l s
+no-lamp-stale m b p o events = lamps-owed m b p (resetImage m) (start m b p) events (whole-lists m b p o events)
+
+-- Nor is one of a chip that is finished, whatever the last event was.
+pub finished-lamps : (m b p : ℕ) → accepted (openOf m b p .answer) ≡ true → (events : List Event) → writesOf (worldAfter m b p events .host) ≡ [] →
+    wantsOn (ledgerAfter m b p events) ≡ true → (l s : ℕ) → isDot m l s ≡ true →
+    SameLamp (worldAfter m b p events .chip .registers) (ledgerAfter m b p events) l s
+finished-lamps m b p o events none on =
+    same-lamp m (worldAfter m b p events .chip .registers) (ledgerAfter m b p events) (whole-lists m b p o events .finished none on)

@@ -9,7 +9,7 @@ use native.Mathlib.Omega.{arith}
 use Rattle.map.specs.Map.{writableOf}
 use Rattle.map.specs.ImageLaws.{Fit, Registers}
 use Rattle.burst.specs.Burst.{Burst}
-use Rattle.burst.specs.BurstLaws.{AllNamed}
+use Rattle.burst.specs.BurstLaws.{AllData, AllNamed}
 use Rattle.plan.specs.Writes.{Good, AllGood}
 use Rattle.plan.specs.Update.{valueAt, writeOf}
 use Rattle.plan.specs.Machine.{Machine, feedBy}
@@ -50,7 +50,12 @@ module _ (h : Header) where
   hear-all-is rs [] = refl
   hear-all-is rs (x ∷ xs) = hear-all-is (hear (h .member) rs x) xs
 
-  -- writes to such addresses have addresses of ten bits
+  -- writes to such addresses have data,
+  pub good-some : (xs : List Burst) → AllGood (mayWrite h) 908 (map writeOf xs) → AllData xs
+  good-some [] g = tt
+  good-some (x ∷ xs) g = (g .0 .some, good-some xs (g .1))
+
+  -- and addresses of ten bits
   pub good-named : (xs : List Burst) → AllGood (mayWrite h) 908 (map writeOf xs) → AllNamed xs
   good-named [] g = tt
   good-named (x ∷ xs) g = (omega (arith, g .0 .some, g .0 .fits), good-named xs (g .1))

@@ -14,14 +14,14 @@ use Rattle.chip.specs.Chip.{chipOf, soundOf}
 use Rattle.history.specs.declared.World.{World}
 use Rattle.history.specs.declared.CallAnswer as answers
 use Rattle.history.specs.Step.{stepOf}
-use Rattle.history.specs.History.{Call, worldAfter, ledgerAfter, Demand3}
+use Rattle.history.specs.History.{Event, worldAfter, ledgerAfter, Demand3}
 
 -- ---- The failure
 
--- The record that these calls left, beside a chip of the same member, bus and pins that holds these registers, whatever it heard of
+-- The record that these events left, beside a chip of the same member, bus and pins that holds these registers, whatever it heard of
 -- their lists.
-abbrev pub failed : ℕ → ℕ → ℕ → List Call → List ℕ → World
-failed m b p calls registers = record { host = worldAfter m b p calls .host; chip = chipOf m b p registers }
+abbrev pub failed : ℕ → ℕ → ℕ → List Event → List ℕ → World
+failed m b p events registers = record { host = worldAfter m b p events .host; chip = chipOf m b p registers }
 
 -- ---- The Reset
 
@@ -35,10 +35,10 @@ resetWorld w buffer = stepOf w Reset buffer .world
 
 -- ---- The claim
 
--- For all calls behind that Reset demand 3 is owed, with the settings of all calls before it: after every Open that is accepted, every
--- list of calls, and all registers that a sound chip can hold.
+-- For all events behind that Reset demand 3 is owed, with the settings of all calls before it: after every Open that is accepted, every
+-- list of events, and all registers that a sound chip can hold.
 abbrev pub RecoveredLists : Type 0
 RecoveredLists =
-    (m b p : ℕ) → accepted (openOf m b p .answer) ≡ true → (calls : List Call) (registers : List ℕ) → soundOf (chipOf m b p registers) ≡ true →
-    (buffer : List ℕ) (n t : ℕ) → ResetAnswers (failed m b p calls registers) buffer n t → (behind : List Call) →
-    Demand3 m b p (ledgerAfter m b p calls) (resetWorld (failed m b p calls registers) buffer) behind
+    (m b p : ℕ) → accepted (openOf m b p .answer) ≡ true → (events : List Event) (registers : List ℕ) → soundOf (chipOf m b p registers) ≡ true →
+    (buffer : List ℕ) (n t : ℕ) → ResetAnswers (failed m b p events registers) buffer n t → (behind : List Event) →
+    Demand3 m b p (ledgerAfter m b p events) (resetWorld (failed m b p events registers) buffer) behind

@@ -1,4 +1,4 @@
--- A bus failure is mended by an accepted Reset: `reset-recovers` and, for whole lists of calls, `recovered-lists`.
+-- A bus failure is mended by an accepted Reset: `reset-recovers` and, for whole lists of events, `recovered-lists`.
 -- Assumes nothing.
 use mathlib.Core.Path.{_≡_, refl, sym, ap, ap₂, _∙_, subst}
 use mathlib.Core.Bool.{true}
@@ -25,10 +25,10 @@ use Rattle.chip.specs.ChipLaws.{reset-registers, all-registers, is-sound}
 use Rattle.chip.specs.FeedLaws.{feed-reset}
 use Rattle.history.specs.declared.World.{World}
 use Rattle.history.specs.declared.CallAnswer as answers
-use Rattle.history.specs.Ledger.{entered, entries}
+use Rattle.history.specs.Ledger.{entries}
 use Rattle.history.specs.Step.{listIn, fedBy, stepOf}
-use Rattle.history.specs.History.{Call, start, run, worldAfter, tell, told, ledgerAfter}
-use Rattle.history.specs.WorldLaws.{front, worldOf, Holds, is-so, history-holds, told-calls}
+use Rattle.history.specs.History.{Event, call, part, eventStep, start, run, worldAfter, told, ledgerAfter}
+use Rattle.history.specs.WorldLaws.{front, worldOf, Holds, is-so, history-holds, told-calls, ledger-append}
 use Rattle.history.specs.Theorem.{listOf, holds-owes, opened}
 use Rattle.history.specs.Recovery.{failed, ResetAnswers, resetWorld, RecoveredLists}
 
@@ -97,35 +97,35 @@ reset-recovers = holds-again
 
 -- ---- after a history
 
-module _ (m b p : ℕ) (o : accepted (openOf m b p .answer) ≡ true) (calls : List Call) (registers : List ℕ) where
+module _ (m b p : ℕ) (o : accepted (openOf m b p .answer) ≡ true) (events : List Event) (registers : List ℕ) where
   abbrev asked : List ℕ
-  asked = ledgerAfter m b p calls
+  asked = ledgerAfter m b p events
 
-  holds : Holds m b p asked (worldAfter m b p calls)
-  holds = history-holds m b p (opened m b p o) calls
+  holds : Holds m b p asked (worldAfter m b p events)
+  holds = history-holds m b p (opened m b p o) events
 
-  failed-is : failed m b p calls registers ≡ worldOf m b p asked (holds .image) registers
+  failed-is : failed m b p events registers ≡ worldOf m b p asked (holds .image) registers
   failed-is = ap (λ (w : World). record { host = w .host; chip = chipOf m b p registers }) (holds .is)
 
   pub failed-recovers : Rattle.chip.specs.Chip.soundOf (chipOf m b p registers) ≡ true → (buffer : List ℕ) (n t : ℕ) →
-      ResetAnswers (failed m b p calls registers) buffer n t → Holds m b p asked (resetWorld (failed m b p calls registers) buffer)
+      ResetAnswers (failed m b p events registers) buffer n t → Holds m b p asked (resetWorld (failed m b p events registers) buffer)
   failed-recovers e buffer n t =
       subst (λ (w : World). ResetAnswers w buffer n t → Holds m b p asked (resetWorld w buffer)) (sym failed-is)
       (reset-recovers m b p asked (holds .image) registers e buffer n t)
 
   -- nine bytes of buffer are always enough: its list is one write of one byte
-  pub reset-accepted : (buffer : List ℕ) → 9 ≤ length buffer → ResetAnswers (failed m b p calls registers) buffer 1 3
+  pub reset-accepted : (buffer : List ℕ) → 9 ≤ length buffer → ResetAnswers (failed m b p events registers) buffer 1 3
   reset-accepted buffer room =
-      let r : Record = worldAfter m b p calls .host in
-      let so : soundOf r ≡ true = ap (λ (w : World). soundOf (w .host)) (holds .is) ∙ is-so m b p (opened m b p o) asked (worldAfter m b p calls) holds in
+      let r : Record = worldAfter m b p events .host in
+      let so : soundOf r ≡ true = ap (λ (w : World). soundOf (w .host)) (holds .is) ∙ is-so m b p (opened m b p o) asked (worldAfter m b p events) holds in
       ap answers.the-variants.List
       (answer-of r (resetting r) (length buffer) ∙ sym (send-listed r (resetting r) buffer so room .answer-is))
 
 -- Demand 3 behind the Reset
 pub recovered-lists : RecoveredLists
-recovered-lists m b p o calls registers e buffer n t r =
-    holds-owes m b p (opened m b p o) (ledgerAfter m b p calls) (resetWorld (failed m b p calls registers) buffer)
-    (failed-recovers m b p o calls registers e buffer n t r)
+recovered-lists m b p o events registers e buffer n t r =
+    holds-owes m b p (opened m b p o) (ledgerAfter m b p events) (resetWorld (failed m b p events registers) buffer)
+    (failed-recovers m b p o events registers e buffer n t r)
 
 -- ---- what `failed` and the ledger of `RecoveredLists` stand for
 
@@ -145,22 +145,27 @@ step-alone w c Reset lent = refl
 step-alone w c PowerLost lent = refl
 step-alone w c Update lent = refl
 
--- so that the calls may also stand behind the failure: the record after them is the one that `failed` has
-pub record-alone : (calls : List Call) (w : World) (c : Chip) → run (record { host = w .host; chip = c }) calls .host ≡ run w calls .host
+-- and so is the one that a part leaves,
+event-alone : (w : World) (c : Chip) (e : Event) → eventStep (record { host = w .host; chip = c }) e .host ≡ eventStep w e .host
+event-alone w c (call x) = step-alone w c (x .request) (x .lent)
+event-alone w c (part room) = refl
+
+-- so that the events may also stand behind the failure: the record after them is the one that `failed` has
+pub record-alone : (events : List Event) (w : World) (c : Chip) → run (record { host = w .host; chip = c }) events .host ≡ run w events .host
 record-alone [] w c = refl
-record-alone (x ∷ xs) w c =
-    let other : World = stepOf (record { host = w .host; chip = c }) (x .request) (x .lent) .world in
-    ap (λ (r : Record). run (record { host = r; chip = other .chip }) xs .host) (step-alone w c (x .request) (x .lent))
-    ∙ record-alone xs (stepOf w (x .request) (x .lent) .world) (other .chip)
+record-alone (e ∷ es) w c =
+    let other : World = eventStep (record { host = w .host; chip = c }) e in
+    ap (λ (r : Record). run (record { host = r; chip = other .chip }) es .host) (event-alone w c e)
+    ∙ record-alone es (eventStep w e) (other .chip)
 
 -- the ledger goes on as if nothing had failed
-ledger-joins : (m : ℕ) (xs ys : List Call) (s : List ℕ) (w v : World) → entries m (entries m s (told w xs)) (told v ys) ≡ entries m s (told w (xs ++ ys))
-ledger-joins m [] ys s w v = ap (entries m s) (told-calls ys v ∙ sym (told-calls ys w))
-ledger-joins m (x ∷ xs) ys s w v = ledger-joins m xs ys (entered m s (tell w x)) (stepOf w (x .request) (x .lent) .world) v
+ledger-joins : (m : ℕ) (xs ys : List Event) (s : List ℕ) (w v : World) → entries m (entries m s (told w xs)) (told v ys) ≡ entries m s (told w (xs ++ ys))
+ledger-joins m xs ys s w v =
+    ap (entries m (entries m s (told w xs))) (told-calls ys v ∙ sym (told-calls ys (run w xs))) ∙ sym (ledger-append m s w xs ys)
 
 -- and is that of all calls, before and behind the Reset
-pub recovered-ledger : (m b p : ℕ) (calls : List Call) (w : World) (buffer : List ℕ) (behind : List Call) →
-    entries m (ledgerAfter m b p calls) (told (resetWorld w buffer) behind)
-    ≡ ledgerAfter m b p (calls ++ (record { request = Reset; lent = buffer } ∷ behind))
-recovered-ledger m b p calls w buffer behind =
-    ledger-joins m calls (record { request = Reset; lent = buffer } ∷ behind) (resetImage m) (start m b p) w
+pub recovered-ledger : (m b p : ℕ) (events : List Event) (w : World) (buffer : List ℕ) (behind : List Event) →
+    entries m (ledgerAfter m b p events) (told (resetWorld w buffer) behind)
+    ≡ ledgerAfter m b p (events ++ (call (record { request = Reset; lent = buffer }) ∷ behind))
+recovered-ledger m b p events w buffer behind =
+    ledger-joins m events (call (record { request = Reset; lent = buffer }) ∷ behind) (resetImage m) (start m b p) w

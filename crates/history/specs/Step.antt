@@ -1,19 +1,23 @@
 -- One call on a world, by the promises of the real calls and of Feed: document 01, "The ledger and whole lists". A world is a host's
--- record, `host`, and its chip; `lent` is the bytes of a scene, or the buffer of a call that writes a list.
+-- record, `host`, and its chip; `lent` is the bytes of a scene, or the buffer of a call that writes a list. And what a round of document
+-- 02, Q-3, is to one world.
 -- Assumes nothing.
 use mathlib.Core.List.{List}
 use Prim.Native.Nat.{ℕ, _+_, _*_, _≤_}
 use lib.ListN.{length, take}
 use Rattle.map.specs.declared.refusals.Numbers.{Numbers}
 use Rattle.map.specs.Refusals.{numbersOf}
+use Rattle.burst.specs.Burst.{Burst, encode}
+use Rattle.plan.specs.Update.{storeAll}
+use Rattle.plan.specs.Portion.{portion}
 use Rattle.calls.specs.declared.Request.{Request}
 use Rattle.calls.specs.declared.Request.the-variants.{Set, Reset, PowerLost, Update}
 use Rattle.host.specs.declared.Changed.{Changed}
-use Rattle.host.specs.Record.{settingOf, powerLostOf}
+use Rattle.host.specs.Record.{recordOf, settingOf, powerLostOf}
 use Rattle.update.specs.declared.ListAnswer.{ListAnswer}
 use Rattle.update.specs.declared.ListAnswer.the-variants.{Listed, Short, Refused}
 use Rattle.update.specs.declared.Updated.{Updated}
-use Rattle.update.specs.Update.{listNumbers, Sending, sendOf, sendBuffer, updating, resetting, clearing}
+use Rattle.update.specs.Update.{listNumbers, Sending, sendOf, sendBuffer, writesOf, updating, resetting, clearing}
 use Rattle.chip.specs.declared.Chip.{Chip}
 use Rattle.chip.specs.Chip.{feedOf}
 use Rattle.history.specs.declared.World.{World}
@@ -84,6 +88,23 @@ stepOf w (Set q) lent = changeStep (settingOf (w .host) q lent) (w .chip) lent
 stepOf w Reset lent = sendStep w (resetting (w .host)) lent
 stepOf w PowerLost lent = changeStep (powerLostOf (w .host)) (Rattle.chip.specs.Chip.powerLostOf (w .chip)) lent
 stepOf w Update lent = sendStep w (updating (w .host)) lent
+
+-- ---- A part: document 02, Q-3
+
+-- "A chip's portion within some number of bytes is the longest beginning of its pending list, Update's, that fits" (`portion-longest` of plan)
+abbrev pub partOf : World → ℕ → List Burst
+partOf w room = portion room (writesOf (w .host))
+
+-- these writes go to the chip, in a list for the record's bus and pins; "each chip image takes what its chip is sent"
+abbrev pub sentTo : World → List Burst → World
+sentTo w xs = record {
+  host = recordOf (w .host .header) (w .host .settings) (storeAll xs (w .host .image));
+  chip = feedOf (w .chip) (encode (w .host .header .bus) (w .host .header .pins) xs) .chip;
+}
+
+-- so does its portion within `room` bytes
+abbrev pub partStep : World → ℕ → World
+partStep w room = sentTo w (partOf w room)
 
 -- ---- Clear, which is no call of the list of demand 3
 

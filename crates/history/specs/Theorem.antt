@@ -2,7 +2,7 @@
 -- Assumes nothing.
 use mathlib.Core.Path.{_≡_, refl, sym, ap, ap₂, _∙_, subst}
 use mathlib.Core.Bool.{true, cond}
-use mathlib.Core.List.{List, [], map}
+use mathlib.Core.List.{List, [], _∷_, map}
 use Prim.Native.Nat.{ℕ, _≤_}
 use native.Mathlib.Omega.{arith}
 use lib.Dec.{leb}
@@ -19,6 +19,7 @@ use Rattle.plan.specs.Update.{valueAt}
 use Rattle.plan.specs.Machine.{Best}
 use Rattle.plan.specs.MachineLaws.{machine-best}
 use Rattle.plan.specs.Again.{update-again}
+use Rattle.plan.specs.PortionLaws.{portion-begins}
 use Rattle.calls.specs.declared.Request.the-variants.{Update}
 use Rattle.host.specs.declared.Header.{Header}
 use Rattle.host.specs.declared.Record.{Record}
@@ -35,10 +36,10 @@ use Rattle.chip.specs.FeedLaws.{hearAll, Taken, feed-taken, feed-writes}
 use Rattle.history.specs.declared.World.{World}
 use Rattle.history.specs.declared.CallAnswer as answers
 use Rattle.history.specs.Ledger.{entries, wantsOn}
-use Rattle.history.specs.Step.{listIn, fedBy, stepOf}
-use Rattle.history.specs.History.{Call, start, run, worldAfter, told, SameWritable, AllAllowed, Rival, UpdateAnswers, updateList, Updates, Owed, Demand3, WholeLists}
+use Rattle.history.specs.Step.{listIn, fedBy, stepOf, partOf}
+use Rattle.history.specs.History.{Event, call, start, run, worldAfter, told, SameWritable, AllAllowed, Rival, UpdateAnswers, updateList, Updates, Owed, Demand3, WholeLists}
 use Rattle.history.specs.MachineLaws.{may-writable, writable-may, machine, hear-all-is}
-use Rattle.history.specs.WorldLaws.{front, worldOf, Holds, start-holds, is-so, ready, update-fed, run-holds, run-last, ledger-last}
+use Rattle.history.specs.WorldLaws.{front, worldOf, Holds, PartSendable, start-holds, is-so, ready, update-fed, begins-sendable, run-holds, run-append, ledger-append}
 use Rattle.history.specs.RivalLaws.{all-writes, all-good, all-own}
 
 -- the list's answer of a call that answered one
@@ -80,6 +81,10 @@ module _ (m b p : ℕ) (o : opens m b p ≡ true) (s : List ℕ) (w : World) (h 
   values e a k =
       ap (λ (rs : List ℕ). valueAt rs a) (hear-all-is header (h .registers) writes)
       ∙ best .reached e a (writable-below m a k) (writable-may header a k)
+
+  -- and so they are in a chip with nothing pending
+  finished-here : writes ≡ [] → wantsOn s ≡ true → SameWritable m (h .registers) s
+  finished-here e on a k = ap (λ (xs : List Burst). valueAt (hearAll m (h .registers) xs) a) (sym e) ∙ values on a k
 
   -- a rival is a rival of the crate plan
   module _ (next : World) (next-is : next .chip ≡ chipOf m b p after) (l : List ℕ) (v : Rival m b p world next l) where
@@ -179,9 +184,23 @@ module _ (m b p : ℕ) (o : opens m b p ≡ true) (s : List ℕ) (w : World) (h 
   update-ends buffer n t =
       subst (λ (x : World). UpdateAnswers x buffer n t → writesOf (stepOf x Update buffer .world .host) ≡ []) (sym (h .is)) (ended-here buffer n t)
 
--- ---- the last call of a list
+  -- "the register values are owed once a chip wanted on is finished"
+  pub finished-values : writesOf (w .host) ≡ [] → wantsOn s ≡ true → SameWritable m (w .chip .registers) s
+  finished-values =
+      subst (λ (x : World). writesOf (x .host) ≡ [] → wantsOn s ≡ true → SameWritable m (x .chip .registers) s) (sym (h .is)) finished-here
 
-module _ (m b p : ℕ) (o : opens m b p ≡ true) (s : List ℕ) (w : World) (h : Holds m b p s w) (calls before : List Call) (buffer : List ℕ) (n t : ℕ) where
+  -- a part names addresses that may be written, and no others
+  pub part-allowed : (room : ℕ) → AllAllowed b p (w .host .header) (transactions (encode b p (partOf w room)))
+  part-allowed room =
+      let ok : PartSendable header (partOf w room) = begins-sendable m b p o s w h (partOf w room) (portion-begins room (writesOf (w .host))) in
+      let ready-list : Sendable (partOf w room) = record { some = ok .some; short = omega (arith, ok .short) } in
+      subst (λ (x : Header). AllAllowed b p x (transactions (encode b p (partOf w room)))) (sym (ap (λ (x : World). x .host .header) (h .is)))
+      (subst (AllAllowed b p header) (sym (encode-transactions b p (partOf w room) ready-list))
+      (all-own b p header (partOf w room) (opens-pins m b p o) (ok .good)))
+
+-- ---- the last event of a list
+
+module _ (m b p : ℕ) (o : opens m b p ≡ true) (s : List ℕ) (w : World) (h : Holds m b p s w) (events before : List Event) (buffer : List ℕ) (n t : ℕ) where
   abbrev earlier : World
   earlier = run w before
 
@@ -191,44 +210,46 @@ module _ (m b p : ℕ) (o : opens m b p ≡ true) (s : List ℕ) (w : World) (h 
   holds-earlier : Holds m b p ledger-earlier earlier
   holds-earlier = run-holds m b p o before s w h
 
-  abbrev call : Call
-  call = record { request = Update; lent = buffer }
+  abbrev update : List Event
+  update = call (record { request = Update; lent = buffer }) ∷ []
 
   -- what is owed behind an accepted Update, wherever it stands
   owed : UpdateAnswers earlier buffer n t → Owed m b p ledger-earlier earlier (stepOf earlier Update buffer .world) (updateList earlier buffer n t) n t
   owed = update-owes m b p o ledger-earlier earlier holds-earlier buffer n t
 
-  module _ (u : Updates w calls before [] buffer n t) where
+  module _ (u : Updates w events before [] buffer n t) where
     abbrev ledger-now : List ℕ
-    ledger-now = entries m s (told w calls)
+    ledger-now = entries m s (told w events)
 
-    world-last : run w calls ≡ stepOf earlier Update buffer .world
-    world-last = ap (run w) (u .calls-are) ∙ run-last before call w
+    world-last : run w events ≡ stepOf earlier Update buffer .world
+    world-last = ap (run w) (u .events-are) ∙ run-append before update w
 
     ledger-stays : ledger-now ≡ ledger-earlier
-    ledger-stays = ap (λ (l : List Call). entries m s (told w l)) (u .calls-are) ∙ ledger-last m s w before call
+    ledger-stays = ap (λ (l : List Event). entries m s (told w l)) (u .events-are) ∙ ledger-append m s w before update
 
-    last-update : Owed m b p ledger-now earlier (run w calls) (updateList earlier buffer n t) n t
+    last-update : Owed m b p ledger-now earlier (run w events) (updateList earlier buffer n t) n t
     last-update =
         subst (λ (x : World). Owed m b p ledger-now earlier x (updateList earlier buffer n t) n t) (sym world-last)
         (subst (λ (x : List ℕ). Owed m b p x earlier (stepOf earlier Update buffer .world) (updateList earlier buffer n t) n t) (sym ledger-stays)
         (owed (u .answers)))
 
-    answer-again : (size : ℕ) → updateOf (run w calls .host) size .answer ≡ cond (leb 4 size) (Listed 0 0) (Short 4)
+    answer-again : (size : ℕ) → updateOf (run w events .host) size .answer ≡ cond (leb 4 size) (Listed 0 0) (Short 4)
     unfolding sendOf sendAnswer
     answer-again size =
-        let k : Holds m b p ledger-now (run w calls) = run-holds m b p o calls s w h in
-        let so : soundOf (run w calls .host) ≡ true =
-        ap (λ (x : World). soundOf (x .host)) (k .is) ∙ is-so m b p o ledger-now (run w calls) k in
-        let none : writesOf (run w calls .host) ≡ [] =
+        let k : Holds m b p ledger-now (run w events) = run-holds m b p o events s w h in
+        let so : soundOf (run w events .host) ≡ true =
+        ap (λ (x : World). soundOf (x .host)) (k .is) ∙ is-so m b p o ledger-now (run w events) k in
+        let none : writesOf (run w events .host) ≡ [] =
         ap (λ (x : World). writesOf (x .host)) world-last ∙ update-ends m b p o ledger-earlier earlier holds-earlier buffer n t (u .answers) in
         rw (so, none) refl
 
 -- Demand 3, from wherever the invariant holds
-pub holds-owes : (m b p : ℕ) → opens m b p ≡ true → (s : List ℕ) (w : World) → Holds m b p s w → (calls : List Call) → Demand3 m b p s w calls
-holds-owes m b p o s w h calls = record {
-  names = λ before behind buffer n t u. owed m b p o s w h calls before buffer n t (u .answers) .own .writes;
-  last = λ before buffer n t u. last-update m b p o s w h calls before buffer n t u;
+pub holds-owes : (m b p : ℕ) → opens m b p ≡ true → (s : List ℕ) (w : World) → Holds m b p s w → (events : List Event) → Demand3 m b p s w events
+holds-owes m b p o s w h events = record {
+  names = λ before behind buffer n t u. owed m b p o s w h events before buffer n t (u .answers) .own .writes;
+  part-names = λ before behind room e. part-allowed m b p o (entries m s (told w before)) (run w before) (run-holds m b p o before s w h) room;
+  last = λ before buffer n t u. last-update m b p o s w h events before buffer n t u;
+  finished = finished-values m b p o (entries m s (told w events)) (run w events) (run-holds m b p o events s w h);
 }
 
 pub opened : (m b p : ℕ) → accepted (openOf m b p .answer) ≡ true → opens m b p ≡ true
@@ -237,11 +258,11 @@ opened m b p e = e
 
 -- Demand 3
 pub whole-lists : WholeLists
-whole-lists m b p e calls = holds-owes m b p (opened m b p e) (resetImage m) (start m b p) (start-holds m b p (opened m b p e)) calls
+whole-lists m b p e events = holds-owes m b p (opened m b p e) (resetImage m) (start m b p) (start-holds m b p (opened m b p e)) events
 
 -- A second Update at once sends nothing: its list has no transaction, and asks for 4 bytes of buffer.
-pub second-update : (m b p : ℕ) → accepted (openOf m b p .answer) ≡ true → (calls before : List Call) (buffer : List ℕ) (n t : ℕ) →
-    Updates (start m b p) calls before [] buffer n t → (size : ℕ) →
-    updateOf (worldAfter m b p calls .host) size .answer ≡ cond (leb 4 size) (Listed 0 0) (Short 4)
-second-update m b p e calls before buffer n t u size =
-    answer-again m b p (opened m b p e) (resetImage m) (start m b p) (start-holds m b p (opened m b p e)) calls before buffer n t u size
+pub second-update : (m b p : ℕ) → accepted (openOf m b p .answer) ≡ true → (events before : List Event) (buffer : List ℕ) (n t : ℕ) →
+    Updates (start m b p) events before [] buffer n t → (size : ℕ) →
+    updateOf (worldAfter m b p events .host) size .answer ≡ cond (leb 4 size) (Listed 0 0) (Short 4)
+second-update m b p e events before buffer n t u size =
+    answer-again m b p (opened m b p e) (resetImage m) (start m b p) (start-holds m b p (opened m b p e)) events before buffer n t u size

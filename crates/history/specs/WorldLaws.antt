@@ -1,10 +1,10 @@
--- What holds between a record, its chip and the ledger after every call: one lemma for all settings, one for every call that sends, and
--- what each such call has to show for it.
+-- What holds between a record, its chip and the ledger after every event: one lemma for all settings, one for every call that sends, and
+-- what each such call has to show for it; and one for every beginning of the pending list.
 -- Assumes nothing.
 use mathlib.Core.Path.{_≡_, refl, sym, ap, ap₂, _∙_, subst}
 use mathlib.Core.Bool.{Bool, true, false, cond, true≢false}
 use mathlib.Core.List.{List, [], _∷_, _++_, map}
-use Prim.Native.Nat.{ℕ}
+use Prim.Native.Nat.{ℕ, _≤_}
 use native.Mathlib.Omega.{arith}
 use lib.Dec.{leb}
 use lib.ListN.{length, take, drop}
@@ -13,13 +13,19 @@ use Rattle.map.specs.Refusals.{opens}
 use Rattle.map.specs.RefusalLaws.{opens-member}
 use Rattle.map.specs.Map.{writableOf}
 use Rattle.map.specs.Images.{resetImage}
-use Rattle.map.specs.ImageLaws.{Image, Registers}
+use Rattle.map.specs.ImageLaws.{Fit, Image, Registers}
 use Rattle.burst.specs.Burst.{Burst, busBytes, encode}
-use Rattle.burst.specs.BurstLaws.{encode-length}
+use Rattle.burst.specs.BurstLaws.{AllData, AllNamed, Sendable, encode-length}
 use Rattle.dots.specs.DotImages.{reset-image}
-use Rattle.plan.specs.Update.{valueAt, Agree}
+use Rattle.plan.specs.Lists.{All}
+use Rattle.plan.specs.Writes.{AllGood}
+use Rattle.plan.specs.Update.{valueAt, Agree, seen, storeAll, writeOf}
+use Rattle.plan.specs.UpdateLaws.{Fitting, seen-allows}
 use Rattle.plan.specs.Machine.{Ready}
-use Rattle.plan.specs.MachineLaws.{machine-best}
+use Rattle.plan.specs.Heard.{Heard, follow-heard}
+use Rattle.plan.specs.Follow.{update-heard}
+use Rattle.plan.specs.Portion.{Begins}
+use Rattle.plan.specs.PortionLaws.{portion-begins, begins-bytes, begins-whole, begins-all, begins-good, cut-fits, begins-heard}
 use Rattle.calls.specs.declared.Setting.{Setting}
 use Rattle.calls.specs.declared.Request.{Request}
 use Rattle.calls.specs.declared.Request.the-variants.{Set, Reset, PowerLost, Update}
@@ -31,8 +37,8 @@ use Rattle.host.specs.SoundLaws.{Sound, is-sound}
 use Rattle.update.specs.declared.ListAnswer.{ListAnswer}
 use Rattle.update.specs.declared.ListAnswer.the-variants.{Listed, Short, Refused}
 use Rattle.update.specs.Update.{isListed, listSize, over, Sending, sendAnswer, sendOf, sendBuffer, writesOf, updating, resetting}
-use Rattle.update.specs.UpdateLaws.{enable-byte, image-layout, update-image}
-use Rattle.update.specs.BoundLaws.{update-sendable, names-writable}
+use Rattle.update.specs.UpdateLaws.{enable-byte, image-layout, store-image, update-fits}
+use Rattle.update.specs.BoundLaws.{bus-most, names-writable}
 use Rattle.chip.specs.declared.Chip.{Chip}
 use Rattle.chip.specs.declared.Fed.{Fed}
 use Rattle.chip.specs.Chip.{chipOf, newChip, atResetOf, feedOf}
@@ -41,9 +47,9 @@ use Rattle.chip.specs.FeedLaws.{hearAll, hear-all-registers, feed-encoded, feed
 use Rattle.history.specs.declared.World.{World}
 use Rattle.history.specs.Ledger.{entry, Told, toldOf, entered, entries}
 use Rattle.history.specs.LedgerLaws.{setting-enters, entry-image, entries-append}
-use Rattle.history.specs.Step.{listIn, fedBy, sendStep, stepOf}
-use Rattle.history.specs.History.{Call, start, run, worldAfter, tell, told, ledgerAfter}
-use Rattle.history.specs.MachineLaws.{may-writable, writable-may, machine, hear-all-is, good-named}
+use Rattle.history.specs.Step.{listIn, fedBy, sendStep, stepOf, partOf, sentTo, partStep}
+use Rattle.history.specs.History.{Call, Event, call, part, eventStep, start, run, worldAfter, tell, told, ledgerAfter}
+use Rattle.history.specs.MachineLaws.{may-writable, writable-may, machine, hear-all-is, good-some, good-named}
 
 -- ---- lists that are answered
 
@@ -77,6 +83,13 @@ pub record Holds (m b p : ℕ) (s : List ℕ) (w : World) : Type 0 where
   pub image-fit : Image m image
   pub registers-fit : Registers m registers
   pub same : Agree (writableOf m) 908 (valueAt image) (valueAt registers)
+
+-- What every beginning of a pending list meets: it has data, for addresses of ten bits that may be written, and 702 bytes at most.
+pub record PartSendable (h : Header) (xs : List Burst) : Type 0 where
+  pub some : AllData xs
+  pub named : AllNamed xs
+  pub good : AllGood (mayWrite h) 908 (map writeOf xs)
+  pub short : busBytes xs ≤ 702
 
 module _ (m b p : ℕ) (o : opens m b p ≡ true) where
   pub start-holds : Holds m b p (resetImage m) (start m b p)
@@ -176,7 +189,7 @@ module _ (m b p : ℕ) (o : opens m b p ≡ true) where
             rw (f .no-list)
             (subst (λ (c : Chip). Holds m b p s (record { host = host; chip = c })) (sym (not-fed (x .short) buffer chip (f .no-list))) stays)
 
-    -- Update
+    -- ---- a beginning of the pending list
 
     pub ready : Ready (mayWrite header) 908 (machine header) s (h .image) (h .registers)
     ready = record {
@@ -191,21 +204,73 @@ module _ (m b p : ℕ) (o : opens m b p ≡ true) where
       fit = λ a l k. h .settings-fit .fits a l;
     }
 
-    -- the update's list, fed to the chip
+    module _ (xs : List Burst) (g : Begins xs (writesOf host)) where
+      begun-sendable : PartSendable header xs
+      begun-sendable =
+          let good : AllGood (mayWrite header) 908 (map writeOf xs) = begins-good (mayWrite header) 908 xs (writesOf host) g (names-writable host is-so) in
+          record {
+            some = good-some header xs good;
+            named = good-named header xs good;
+            good = good;
+            short = omega (arith, begins-bytes xs (writesOf host) g, bus-most host is-so);
+          }
+
+      -- its data bytes fit their addresses,
+      begun-fits : All (Fitting (Fit m) 908) xs
+      unfolding writesOf
+      begun-fits =
+          begins-all (Fitting (Fit m) 908) (cut-fits (Fit m) 908) xs (writesOf host) g
+          (update-fits header s (h .settings-fit) (seen (valueAt s) (valueAt (h .image))))
+
+      -- and each of them is heard
+      begun-heard : Heard (h .image) xs
+      unfolding writesOf
+      begun-heard =
+          begins-heard xs (writesOf host) (h .image) g
+          (update-heard (mayWrite header) 908 s (h .image) (ready .images) (seen (valueAt s) (valueAt (h .image)))
+          (seen-allows (mayWrite header) 908 (valueAt s) (valueAt (h .image))))
+
+      -- its list, fed to the chip
+      begun-fed : feedOf chip (encode b p xs) ≡ record { answer = Accepted; chip = chipOf m b p (hearAll m (h .registers) xs) }
+      begun-fed =
+          let ok : PartSendable header xs = begun-sendable in
+          let sizes : Sendable xs = record { some = ok .some; short = omega (arith, ok .short) } in
+          feed-encoded chip chip-sound xs sizes (ok .named)
+
+      -- the image with its data bytes at their addresses is one, and has the writable bytes of the chip then
+      begun-image : Image m (storeAll xs (h .image))
+      begun-image = store-image m xs begun-fits (h .image) (h .image-fit)
+
+      begun-follows : Agree (writableOf m) 908 (valueAt (storeAll xs (h .image))) (valueAt (hearAll m (h .registers) xs))
+      begun-follows a l k =
+          follow-heard (mayWrite header) 908 (machine header) (ready .images .layout .some) (ready .images .layout .enable-ok) xs (h .registers) (h .image)
+          (begun-sendable .good) begun-fits begun-heard (h .registers-fit) (h .image-fit .size) (ready .same) a l (writable-may header a k)
+          ∙ ap (λ (rs : List ℕ). valueAt rs a) (sym (hear-all-is header (h .registers) xs))
+
+      begun-holds : Holds m b p s (sentTo world xs)
+      begun-holds = record {
+        image = storeAll xs (h .image);
+        registers = hearAll m (h .registers) xs;
+        is = ap (λ (f : Fed). record { host = recordOf header s (storeAll xs (h .image)); chip = f .chip }) begun-fed;
+        settings-fit = h .settings-fit;
+        image-fit = begun-image;
+        registers-fit = hear-all-registers m (h .registers) xs (h .registers-fit);
+        same = begun-follows;
+      }
+
+    -- Update sends all of it
+
     pub update-fed : feedOf chip (encode b p (writesOf host)) ≡ record { answer = Accepted; chip = chipOf m b p (hearAll m (h .registers) (writesOf host)) }
-    update-fed = feed-encoded chip chip-sound (writesOf host) (update-sendable host is-so) (good-named header (writesOf host) (names-writable host is-so))
+    update-fed = begun-fed (writesOf host) (begins-whole (writesOf host))
 
     update-follows : Follows (updating host)
-    unfolding writesOf
     update-follows = record {
       no-list = refl;
       after = hearAll m (h .registers) (writesOf host);
       fed = ap (λ (f : Fed). f .chip) update-fed;
-      image-fit = update-image host sound;
+      image-fit = begun-image (writesOf host) (begins-whole (writesOf host));
       after-fit = hear-all-registers m (h .registers) (writesOf host) (h .registers-fit);
-      follows = λ a l k.
-          machine-best (mayWrite header) 908 (machine header) s (h .image) (h .registers) ready .follows a l (writable-may header a k)
-          ∙ ap (λ (rs : List ℕ). valueAt rs a) (sym (hear-all-is header (h .registers) (writesOf host)));
+      follows = begun-follows (writesOf host) (begins-whole (writesOf host));
     }
 
     -- Reset
@@ -243,42 +308,70 @@ module _ (m b p : ℕ) (o : opens m b p ≡ true) where
     call-holds PowerLost lent = power-holds lent
     call-holds Update lent = sent-holds (updating host) update-follows lent
 
-  -- after one call, and so after any list of them
+  -- ---- every event
+
+  -- after one call
   pub step-holds : (s : List ℕ) (w : World) → Holds m b p s w → (c : Call) → Holds m b p (entered m s (tell w c)) (stepOf w (c .request) (c .lent) .world)
   step-holds s w h c =
       subst (λ (x : World). Holds m b p (entered m s (tell x c)) (stepOf x (c .request) (c .lent) .world)) (sym (h .is))
       (call-holds s w h (c .request) (c .lent))
 
-  pub run-holds : (calls : List Call) (s : List ℕ) (w : World) → Holds m b p s w → Holds m b p (entries m s (told w calls)) (run w calls)
-  run-holds [] s w h = h
-  run-holds (c ∷ cs) s w h = run-holds cs (entered m s (tell w c)) (stepOf w (c .request) (c .lent) .world) (step-holds s w h c)
+  module _ (s : List ℕ) (w : World) (h : Holds m b p s w) (xs : List Burst) (g : Begins xs (writesOf (w .host))) where
+    begins-here : Begins xs (writesOf (recordOf (headerOf m b p) s (h .image)))
+    begins-here = subst (λ (x : World). Begins xs (writesOf (x .host))) (h .is) g
 
-  pub history-holds : (calls : List Call) → Holds m b p (ledgerAfter m b p calls) (worldAfter m b p calls)
-  history-holds calls = run-holds calls (resetImage m) (start m b p) start-holds
+    -- a beginning of the pending list may be sent,
+    pub begins-sendable : PartSendable (headerOf m b p) xs
+    begins-sendable = begun-sendable s w h xs begins-here
+
+    -- and the ledger hears nothing of it
+    pub begins-holds : Holds m b p s (sentTo w xs)
+    begins-holds = subst (λ (x : World). Holds m b p s (sentTo x xs)) (sym (h .is)) (begun-holds s w h xs begins-here)
+
+  -- after one event, and so after any list of them
+  pub event-holds : (s : List ℕ) (w : World) → Holds m b p s w → (e : Event) → Holds m b p (entries m s (told w (e ∷ []))) (eventStep w e)
+  event-holds s w h (call c) = step-holds s w h c
+  event-holds s w h (part room) = begins-holds s w h (partOf w room) (portion-begins room (writesOf (w .host)))
+
+  pub run-holds : (events : List Event) (s : List ℕ) (w : World) → Holds m b p s w → Holds m b p (entries m s (told w events)) (run w events)
+  run-holds [] s w h = h
+  run-holds (call c ∷ es) s w h = run-holds es (entered m s (tell w c)) (eventStep w (call c)) (event-holds s w h (call c))
+  run-holds (part room ∷ es) s w h = run-holds es s (partStep w room) (event-holds s w h (part room))
+
+  pub history-holds : (events : List Event) → Holds m b p (ledgerAfter m b p events) (worldAfter m b p events)
+  history-holds events = run-holds events (resetImage m) (start m b p) start-holds
 
   -- the header is always the opened one,
-  pub header-after : (calls : List Call) → worldAfter m b p calls .host .header ≡ headerOf m b p
-  header-after calls = ap (λ (w : World). w .host .header) (history-holds calls .is)
+  pub header-after : (events : List Event) → worldAfter m b p events .host .header ≡ headerOf m b p
+  header-after events = ap (λ (w : World). w .host .header) (history-holds events .is)
 
   -- so that the addresses that may be written are always the member's writable ones
-  pub may-write-after : (calls : List Call) (a : ℕ) → mayWrite (worldAfter m b p calls .host .header) a ≡ writableOf m a
-  may-write-after calls a = ap (λ (h : Header). mayWrite h a) (header-after calls) ∙ may-write (headerOf m b p) a
+  pub may-write-after : (events : List Event) (a : ℕ) → mayWrite (worldAfter m b p events .host .header) a ≡ writableOf m a
+  may-write-after events a = ap (λ (h : Header). mayWrite h a) (header-after events) ∙ may-write (headerOf m b p) a
 
--- ---- lists of calls
+-- ---- lists of events
+
+abbrev pub callsIn : List Event → List Call
+callsIn [] = []
+callsIn (call c ∷ es) = c ∷ callsIn es
+callsIn (part room ∷ es) = callsIn es
 
 -- "never an answer": whatever the world, the ledger is told the calls and nothing else
-pub told-calls : (calls : List Call) (w : World) → told w calls ≡ map (λ (c : Call). toldOf (c .request) (c .lent)) calls
+pub told-calls : (events : List Event) (w : World) → told w events ≡ map (λ (c : Call). toldOf (c .request) (c .lent)) (callsIn events)
 told-calls [] w = refl
-told-calls (c ∷ cs) w = ap (λ (xs : List Told). tell w c ∷ xs) (told-calls cs (stepOf w (c .request) (c .lent) .world))
+told-calls (call c ∷ es) w = ap (λ (xs : List Told). tell w c ∷ xs) (told-calls es (eventStep w (call c)))
+told-calls (part room ∷ es) w = told-calls es (partStep w room)
 
-pub run-last : (xs : List Call) (c : Call) (w : World) → run w (xs ++ (c ∷ [])) ≡ stepOf (run w xs) (c .request) (c .lent) .world
-run-last [] c w = refl
-run-last (x ∷ xs) c w = run-last xs c (stepOf w (x .request) (x .lent) .world)
+pub run-append : (xs ys : List Event) (w : World) → run w (xs ++ ys) ≡ run (run w xs) ys
+run-append [] ys w = refl
+run-append (x ∷ xs) ys w = run-append xs ys (eventStep w x)
 
-told-last : (xs : List Call) (c : Call) (w : World) → told w (xs ++ (c ∷ [])) ≡ told w xs ++ (tell (run w xs) c ∷ [])
-told-last [] c w = refl
-told-last (x ∷ xs) c w = ap (λ (l : List Told). tell w x ∷ l) (told-last xs c (stepOf w (x .request) (x .lent) .world))
+pub told-append : (xs ys : List Event) (w : World) → told w (xs ++ ys) ≡ told w xs ++ told (run w xs) ys
+told-append [] ys w = refl
+told-append (call c ∷ xs) ys w = ap (λ (l : List Told). tell w c ∷ l) (told-append xs ys (eventStep w (call c)))
+told-append (part room ∷ xs) ys w = told-append xs ys (partStep w room)
 
-pub ledger-last : (m : ℕ) (s : List ℕ) (w : World) (calls : List Call) (c : Call) →
-    entries m s (told w (calls ++ (c ∷ []))) ≡ entered m (entries m s (told w calls)) (tell (run w calls) c)
-ledger-last m s w calls c = ap (entries m s) (told-last calls c w) ∙ entries-append m (told w calls) (tell (run w calls) c ∷ []) s
+-- the ledger of events behind others
+pub ledger-append : (m : ℕ) (s : List ℕ) (w : World) (xs ys : List Event) →
+    entries m s (told w (xs ++ ys)) ≡ entries m (entries m s (told w xs)) (told (run w xs) ys)
+ledger-append m s w xs ys = ap (entries m s) (told-append xs ys w) ∙ entries-append m (told w xs) (told (run w xs) ys) s
