@@ -14,7 +14,7 @@
 #include "reference.h"
 #include "walk.h"
 
-enum { RANDOM_ROUNDS = 110000, ROUNDS_IN_A_HISTORY = 200, STARTS = 40, MEMBERS = 5, ANSWERS = 17 };
+enum { RANDOM_ROUNDS = 130000, ROUNDS_IN_A_HISTORY = 200, STARTS = 120, MEMBERS = 5, ANSWERS = 17 };
 
 /* A round's arguments. The records have room behind them for a size that is too large. */
 struct turn {
@@ -497,6 +497,8 @@ static void change(struct world *world)
         break;
     case 5:
     case 6:
+    case 7:
+    case 8:
         any_settings(world, rates[random_below(5)]);
         break;
     default:
@@ -592,7 +594,7 @@ static void finish(struct panels *panels, uint32_t limit)
 /* Few registers differ, or some, or one time all. */
 static void run_finish(uint32_t limit, int number)
 {
-    static const uint32_t rates[] = {300, 40, 8};
+    static const uint32_t rates[] = {300, 30, 4};
     static struct panels panels;
 
     start(&panels);
