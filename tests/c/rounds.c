@@ -647,7 +647,7 @@ static void one_write_each(void)
 }
 
 /* Places 0 and 2: 01h to 000h, three bytes, and then six bytes from 200h, eight with the head. The share of 16 or 17 is 4, so that each
- * first portion has 3. Of 16 bytes 10 are left: place 0 takes 8, and in 2 fits no write. Of 17 place 2 gets 3, which is one byte of data. */
+ * first portion has 3. Of 16 bytes 10 are left: place 0 takes 8, and no write fits into 2. Of 17 place 2 gets 3: one byte of data. */
 static void left_over(void)
 {
     static const uint8_t of_16[] = {3,    0,    14,   0,    3,    0,    8,    0,    3,    0,    0x80, 0x00,
