@@ -14,7 +14,7 @@
 #include "reference.h"
 #include "walk.h"
 
-enum { RANDOM_ROUNDS = 130000, ROUNDS_IN_A_HISTORY = 200, STARTS = 120, MEMBERS = 5, ANSWERS = 17 };
+enum { RANDOM_ROUNDS = 140000, ROUNDS_IN_A_HISTORY = 200, STARTS = 120, MEMBERS = 5, ANSWERS = 17 };
 
 /* A round's arguments. The records have room behind them for a size that is too large. */
 struct turn {
@@ -559,7 +559,7 @@ static void check_finished(const struct world *world, uint32_t used, uint32_t al
               "a finished chip does not hold the settings");
 }
 
-/* Places from the lowest bit up that still wait; none may that has had its rounds. */
+/* The places that still wait, a bit for each; none may that has had its rounds. Those that no longer wait are finished. */
 static uint32_t still_waiting(const struct panels *panels, uint32_t before, const uint32_t *used, const uint32_t *allowed)
 {
     uint8_t list[LP586X_UPDATE_SIZE];
@@ -579,7 +579,7 @@ static uint32_t still_waiting(const struct panels *panels, uint32_t before, cons
 static void finish(struct panels *panels, uint32_t limit)
 {
     static struct turn turn;
-    uint32_t used[PLACES] = {0}, allowed[PLACES], waiting = ALL_PRESENT;
+    uint32_t used[PLACES] = {0}, allowed[PLACES], waiting = 0;
 
     for (uint32_t place = 0; place < PLACES; place++)
         allowed[place] = differing(panels->at[place].record);
