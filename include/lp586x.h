@@ -162,9 +162,9 @@ uint32_t lp586x_clear(const uint8_t *record, size_t record_size, uint8_t *buffer
  * A chip's portion within some bytes is the longest beginning of the list that lp586x_update would give now; its last write is cut where
  * needed, though not below one byte of data. Each chip gets its portion within limit / 4. What limit has left then goes round in the order
  * of the places: each portion is found anew within its bytes and what is still left. The list has the portions in that order, and each chip
- * image takes what its chip is sent. A chip is at its settings, or off as they say, once lp586x_update would have an empty list for it:
- * after at most as many rounds with it present as it had differing registers. Where a transaction fails, what is said above is due for each
- * record whose transactions were not all sent.
+ * image takes what its chip is sent. A chip is at its settings, or off as they say, once lp586x_update would have an empty list for it.
+ * While the settings stand still, and with no reset or power loss, this takes at most as many rounds with the chip present as it has
+ * differing registers. Where a transaction fails, what is said above is due for each record whose transactions were not all sent.
  * 0 stores n and t. 14 (a present record, records_size, or present above 15), 15 (limit), 16 (a present record on SPI, or whose pins are
  * not its place), 10 (buffer under 4 + 2n + t of this list).
  * Changes records, buffer, n and t, none null. */
