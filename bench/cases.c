@@ -6,7 +6,7 @@
 
 #include "../tests/c/reference.h"
 
-static void must(uint32_t answer)
+void must(uint32_t answer)
 {
     if (answer != 0) {
         fprintf(stderr, "bench: a call is refused with %u\n", answer);
@@ -21,22 +21,31 @@ int has_dot(uint32_t member, uint32_t dot)
 
 /* ---- States */
 
-static void set_lamp(struct situation *s, uint32_t dot, uint32_t level)
+static void set_lamp(uint8_t *record, uint32_t dot, uint32_t level)
 {
-    must(lp586x_lamp(s->record, sizeof s->record, dot / 18, dot % 18, level));
+    must(lp586x_lamp(record, LP586X_RECORD_SIZE, dot / 18, dot % 18, level));
 }
 
-static void light_all(struct situation *s)
+static void update_of(struct situation *s, uint8_t *record)
 {
-    for (uint32_t dot = 0; dot < LP586X_DOTS; dot++)
-        if (has_dot(s->member, dot))
-            set_lamp(s, dot, 0x2040 + dot);
+    must(lp586x_update(record, LP586X_RECORD_SIZE, s->list, sizeof s->list, &s->n, &s->t, &s->needed));
+    s->list_size = 4 + 2 * s->n + s->t;
 }
 
 static void update(struct situation *s)
 {
-    must(lp586x_update(s->record, sizeof s->record, s->list, sizeof s->list, &s->n, &s->t, &s->needed));
-    s->list_size = 4 + 2 * s->n + s->t;
+    update_of(s, s->record);
+}
+
+/* On, all dots lit, and the chip image up to date. */
+static void light_all(struct situation *s, uint8_t *record, uint32_t bus, uint32_t pins)
+{
+    must(lp586x_open(record, LP586X_RECORD_SIZE, s->member, bus, pins));
+    must(lp586x_register(record, LP586X_RECORD_SIZE, 0x000, 0x01));
+    for (uint32_t dot = 0; dot < LP586X_DOTS; dot++)
+        if (has_dot(s->member, dot))
+            set_lamp(record, dot, 0x2040 + dot);
+    update_of(s, record);
 }
 
 static void as_it_is(struct situation *s)
@@ -46,7 +55,21 @@ static void as_it_is(struct situation *s)
 
 static void change_one_lamp(struct situation *s)
 {
-    set_lamp(s, 19, 0x1234);
+    set_lamp(s->record, 19, 0x1234);
+}
+
+/* Four such records, on I2C whatever the table. */
+static void open_four(struct situation *s)
+{
+    for (uint32_t place = 0; place < PLACES; place++)
+        light_all(s, s->records[place], LP586X_I2C, place);
+}
+
+static void change_one_lamp_of_each(struct situation *s)
+{
+    open_four(s);
+    for (uint32_t place = 0; place < PLACES; place++)
+        set_lamp(s->records[place], 19, 0x1234);
 }
 
 static void lose_power(struct situation *s)
@@ -127,11 +150,8 @@ void prepare_case(const struct bench_case *measured, struct situation *s, uint32
 {
     memset(s, 0, sizeof *s);
     s->member = member;
-    must(lp586x_open(s->record, sizeof s->record, member, member == 3, 0));
     must(lp586x_chip_at_reset(s->chip, sizeof s->chip, member, member == 3, 0));
-    must(lp586x_register(s->record, sizeof s->record, 0x000, 0x01));
-    light_all(s);
-    update(s);
+    light_all(s, s->record, member == 3, 0);
     measured->prepare(s);
 }
 
@@ -187,6 +207,11 @@ static uint32_t call_clear(const struct interface *calls, struct situation *s)
     return calls->clear(s->record, sizeof s->record, s->buffer, sizeof s->buffer, &s->n, &s->t);
 }
 
+static uint32_t call_round(const struct interface *calls, struct situation *s)
+{
+    return calls->round(s->records[0], sizeof s->records, 15, 4096, s->round, sizeof s->round, &s->n, &s->t);
+}
+
 static uint32_t call_chip_at_reset(const struct interface *calls, struct situation *s)
 {
     return calls->chip_at_reset(s->chip, sizeof s->chip, s->member, 0, 1);
@@ -231,6 +256,8 @@ const struct bench_case cases[] = {
     {"Reset", as_it_is, call_reset},
     {"Power lost", as_it_is, call_power_lost},
     {"Clear", as_it_is, call_clear},
+    {"Round, one lamp on each of four", change_one_lamp_of_each, call_round},
+    {"Round, nothing waiting", open_four, call_round},
     {"Transactions of a list of one lamp", list_one_lamp, call_walk},
     {"Transactions of the list of the full update", list_all_registers, call_walk},
     {"Faults", fill_faults, call_faults},

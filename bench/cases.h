@@ -8,7 +8,7 @@
 #include "../tests/c/interface.h"
 #include "lp586x.h"
 
-enum { SCENE_ENTRIES = 50 };
+enum { SCENE_ENTRIES = 50, PLACES = 4 };
 
 struct situation {
     uint32_t member;
@@ -21,6 +21,8 @@ struct situation {
     uint8_t faults[LP586X_FAULT_BYTES];
     uint8_t result[LP586X_DOTS];
     uint32_t n, t, needed;
+    uint8_t records[PLACES][LP586X_RECORD_SIZE];
+    uint8_t round[LP586X_ROUND_SIZE];
 };
 
 struct bench_case {
@@ -34,6 +36,9 @@ extern const int case_count;
 
 /* The state that a case finds: all dots lit, 16 bits, the chip on and up to date, and then what the case does before its call. */
 void prepare_case(const struct bench_case *measured, struct situation *situation, uint32_t member);
+
+/* Ends the program where a call was refused. */
+void must(uint32_t answer);
 
 /* Whether the member has the dot: what the calls accept. */
 int has_dot(uint32_t member, uint32_t dot);

@@ -7,6 +7,7 @@
  *    7 level too high       8 group above 3 or state above 1
  *    9 length of a scene   10 buffer too short      11 sizes of a list do not add up
  *   13 fault bytes not 67  14 unsound record or chip, or its size is wrong
+ *   15 limit of a round    16 record on SPI, or its pins are not its place
  *   26 no such transaction
  * A call checks in the order in which its refusals stand below. A refused call changes no byte that was lent to it; 10 of
  * lp586x_update alone stores the length needed.
@@ -38,9 +39,9 @@
 extern "C" {
 #endif
 
-#define LP586X_VERSION "3.0.0"
+#define LP586X_VERSION "3.1.0"
 #define LP586X_VERSION_MAJOR 3
-#define LP586X_VERSION_MINOR 0
+#define LP586X_VERSION_MINOR 1
 #define LP586X_VERSION_PATCH 0
 
 /* Members and buses. */
@@ -67,14 +68,20 @@ extern "C" {
 #define LP586X_LIST_SIZES 11u
 #define LP586X_FAULT_LENGTH 13u
 #define LP586X_UNSOUND 14u
+#define LP586X_ROUND_LIMIT 15u
+#define LP586X_WRONG_PLACE 16u
 #define LP586X_NO_TRANSACTION 26u
 
 #define LP586X_RECORD_SIZE 1819u
 #define LP586X_CHIP_SIZE 911u
 #define LP586X_REGISTERS 908u
+/* Four records back to back, for lp586x_round. */
+#define LP586X_RECORDS_SIZE (4u * LP586X_RECORD_SIZE)
 
 /* A buffer of this size is never too short for lp586x_update. */
 #define LP586X_UPDATE_SIZE 1174u
+/* A buffer of this size is never too short for lp586x_round. */
+#define LP586X_ROUND_SIZE 4684u
 /* The size of the list of lp586x_reset. */
 #define LP586X_COMMAND_SIZE 9u
 /* The size of the list of lp586x_clear. */
@@ -124,7 +131,8 @@ uint32_t lp586x_power_lost(uint8_t *record, size_t record_size);
  *
  * On I2C the first head byte is the bus's own address byte, with the write bit. A bus driver that takes a 7-bit address gets the first
  * byte >> 1 (40h + 4 x pins + bits 9-8 of the register, so one chip has four) and the bytes from the second on. On SPI each transaction
- * is one chip select. After the write that turns the chip on, alone and first in its list, the data sheet has a wait of 100 us (t_CHIP_EN).
+ * is one chip select. After the write that turns a chip on, alone and the first to this chip in its list, the data sheet has a wait of
+ * 100 us (t_CHIP_EN).
  *
  * Where a transaction fails, the chip is not what the record takes it for, and no later update mends it, since an update sends only what
  * the record takes to differ. Before the next list of this record is made, do one of these:
@@ -147,6 +155,21 @@ uint32_t lp586x_reset(uint8_t *record, size_t record_size, uint8_t *buffer, size
 /* The open bits and the short bits of the chip to 0, by one write. 0 stores n and t. 14, 10 (buffer under 10).
  * Reads record and changes buffer, n and t, none null. */
 uint32_t lp586x_clear(const uint8_t *record, size_t record_size, uint8_t *buffer, size_t buffer_size, uint32_t *n, uint32_t *t);
+
+/* One turn of a bus that up to four chips on I2C share: a list of at most limit bus bytes (t), 12 to 4,096, which brings them nearer to
+ * their settings. The records stand back to back, the one at place k for the chip with pins k. Bit k of present says that the record at
+ * place k takes part; the others may hold anything, and are neither looked at nor changed.
+ * A chip's portion within some bytes is the longest beginning of the list that lp586x_update would give now; its last write is cut where
+ * needed, though not below one byte of data. Each chip gets its portion within limit / 4. What limit has left then goes round in the order
+ * of the places: each portion is found anew within its bytes and what is still left. The list has the portions in that order, and each chip
+ * image takes what its chip is sent. A chip is at its settings, or off as they say, once lp586x_update would have an empty list for it.
+ * While the settings stand still, and with no reset or power loss, this takes at most as many rounds with the chip present as it has
+ * differing registers. Where a transaction fails, what is said above is due for each record whose transactions were not all sent.
+ * 0 stores n and t. 14 (a present record, records_size, or present above 15), 15 (limit), 16 (a present record on SPI, or whose pins are
+ * not its place), 10 (buffer under 4 + 2n + t of this list).
+ * Changes records, buffer, n and t, none null. */
+uint32_t lp586x_round(uint8_t *records, size_t records_size, uint32_t present, uint32_t limit, uint8_t *buffer, size_t buffer_size,
+                      uint32_t *n, uint32_t *t);
 
 /* Where a transaction stands in a list: length bytes from offset on. The index counts from 0, and the list's size is 4 + 2n + t, not that
  * of a buffer that holds it. 0 stores both. 11 (as lp586x_chip_feed), 26 (an index of n or more).

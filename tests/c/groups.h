@@ -20,6 +20,7 @@ void group_chip(void);
 void group_transactions(void);
 void group_faults(void);
 void group_histories(uint64_t seed);
+void group_rounds(uint64_t seed);
 void group_cplusplus(void);
 
 #ifdef __cplusplus

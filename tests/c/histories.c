@@ -434,17 +434,6 @@ static void call_on_damaged(struct history *history)
     note_answer(call.kind, both(&call).answer);
 }
 
-/* Random values in the writable bits of an image: one address in so many. */
-static void scatter(uint32_t member, uint8_t *image, uint32_t times)
-{
-    for (uint32_t address = 0; address < LP586X_REGISTERS; address++)
-        if (one_in(times)) {
-            uint8_t reserved = reference_reserved(member, address);
-
-            image[address] = (uint8_t)((image[address] & reserved) | (random_bits() & ~reserved));
-        }
-}
-
 /* Any images in a sound record. */
 static void scatter_both(uint8_t *record)
 {

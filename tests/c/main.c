@@ -1,4 +1,4 @@
-/* The tests of the C interface. Arguments: the file of the data sheets' rows, and a seed for the random histories. */
+/* The tests of the C interface. Arguments: the file of the data sheets' rows, and a seed for the random histories and rounds. */
 #include <stdio.h>
 #include <stdlib.h>
 
@@ -28,5 +28,6 @@ int main(int count, char **arguments)
     group_faults();
     group_cplusplus();
     group_histories(strtoull(arguments[2], NULL, 0));
+    group_rounds(strtoull(arguments[2], NULL, 0));
     return checks_result();
 }

@@ -19,6 +19,8 @@ enum refusal {
     LIST_SIZES = 11,
     FAULT_BYTES = 13,
     UNSOUND = 14,
+    BAD_LIMIT = 15,
+    WRONG_PLACE = 16,
     NO_TRANSACTION = 26
 };
 
@@ -444,22 +446,19 @@ static uint32_t plan_writes(const struct record *record, struct write *writes)
     return n;
 }
 
-/* The list of n writes with t bus bytes; the chip image takes their data. */
-static void put_list(struct record *record, const struct write *writes, uint32_t n, uint32_t t, uint8_t *buffer)
+/* n writes, their lengths at one place and their bytes at another; the chip image takes their data. Answers where the bytes end. */
+static uint8_t *put_writes(struct record *record, const struct write *writes, uint32_t n, uint8_t *lengths, uint8_t *at)
 {
-    uint8_t *at = buffer + 4 + 2 * n;
-
-    put_two(buffer, n);
-    put_two(buffer + 2, t);
     for (uint32_t i = 0; i < n; i++) {
         uint32_t start = writes[i].start, length = writes[i].length;
 
-        put_two(buffer + 4 + 2 * i, 2 + length);
+        put_two(lengths + 2 * i, 2 + length);
         put_head(at, record->bus, record->pins, start);
         memcpy(at + 2, record->settings + start, length);
         memcpy(record->image + start, record->settings + start, length);
         at += 2 + length;
     }
+    return at;
 }
 
 uint32_t reference_update(uint8_t *bytes, size_t size, uint8_t *buffer, size_t buffer_size, uint32_t *n, uint32_t *t,
@@ -478,11 +477,140 @@ uint32_t reference_update(uint8_t *bytes, size_t size, uint8_t *buffer, size_t b
         *needed = 4 + 2 * count + total;
         return BUFFER_SHORT;
     }
-    put_list(record, writes, count, total, buffer);
+    put_two(buffer, count);
+    put_two(buffer + 2, total);
+    put_writes(record, writes, count, buffer + 4, buffer + 4 + 2 * count);
     *n = count;
     *t = total;
     return ACCEPTED;
 }
+
+/* ---- Rounds */
+
+enum { PLACES = 4, LEAST_LIMIT = 12, MOST_LIMIT = 4096 };
+
+/* The writes that an update of the record at one place would send, and how many bus bytes of them the round sends. */
+struct pending {
+    struct write writes[MOST_WRITES];
+    uint32_t n, sent;
+};
+
+static int is_present(uint32_t present, uint32_t place)
+{
+    return present >> place & 1;
+}
+
+static int records_sound(const uint8_t *bytes, size_t size, uint32_t present)
+{
+    if (size != LP586X_RECORDS_SIZE || present > 15)
+        return 0;
+    for (uint32_t place = 0; place < PLACES; place++)
+        if (is_present(present, place) && !record_sound(bytes + place * LP586X_RECORD_SIZE, LP586X_RECORD_SIZE))
+            return 0;
+    return 1;
+}
+
+static enum refusal round_refusal(const uint8_t *bytes, size_t size, uint32_t present, uint32_t limit)
+{
+    const struct record *records = (const struct record *)bytes;
+
+    if (!records_sound(bytes, size, present))
+        return UNSOUND;
+    if (limit < LEAST_LIMIT || limit > MOST_LIMIT)
+        return BAD_LIMIT;
+    for (uint32_t place = 0; place < PLACES; place++)
+        if (is_present(present, place) && (records[place].bus == SPI || records[place].pins != place))
+            return WRONG_PLACE;
+    return ACCEPTED;
+}
+
+/* "the longest beginning of its pending list ... that fits, with the last write cut where needed but never below one data byte":
+ * its bytes. A write that is cut fills the room. */
+static uint32_t portion(const struct pending *pending, uint32_t room)
+{
+    uint32_t bytes = 0;
+
+    for (uint32_t i = 0; i < pending->n; i++) {
+        uint32_t cost = 2u + pending->writes[i].length;
+
+        if (bytes + cost > room)
+            return room - bytes > 2 ? room : bytes;
+        bytes += cost;
+    }
+    return bytes;
+}
+
+/* Leaves the writes of that many bytes, the last one shorter where they end in it. */
+static void cut(struct pending *pending, uint32_t bytes)
+{
+    uint32_t n = 0;
+
+    pending->sent = bytes;
+    while (bytes > 0) {
+        struct write *last = &pending->writes[n++];
+
+        if (2u + last->length > bytes)
+            last->length = (uint16_t)(bytes - 2);
+        bytes -= 2u + last->length;
+    }
+    pending->n = n;
+}
+
+/* "First each chip's portion within its share is found. What B has left over then goes round in pin order." */
+static void share_out(struct pending *pending, uint32_t limit)
+{
+    uint32_t first[PLACES], left = limit;
+
+    for (uint32_t place = 0; place < PLACES; place++) {
+        first[place] = portion(&pending[place], limit / PLACES);
+        left -= first[place];
+    }
+    for (uint32_t place = 0; place < PLACES; place++) {
+        uint32_t room = first[place] + left;
+
+        cut(&pending[place], portion(&pending[place], room));
+        left = room - pending[place].sent;
+    }
+}
+
+static void put_round(struct record *records, const struct pending *pending, uint32_t n, uint32_t t, uint8_t *buffer)
+{
+    uint8_t *lengths = buffer + 4, *at = lengths + 2 * n;
+
+    put_two(buffer, n);
+    put_two(buffer + 2, t);
+    for (uint32_t place = 0; place < PLACES; place++) {
+        at = put_writes(&records[place], pending[place].writes, pending[place].n, lengths, at);
+        lengths += 2 * pending[place].n;
+    }
+}
+
+uint32_t reference_round(uint8_t *bytes, size_t size, uint32_t present, uint32_t limit, uint8_t *buffer, size_t buffer_size,
+                         uint32_t *n, uint32_t *t)
+{
+    struct record *records = (struct record *)bytes;
+    enum refusal refusal = round_refusal(bytes, size, present, limit);
+    struct pending pending[PLACES];
+    uint32_t count = 0, total = 0;
+
+    if (refusal != ACCEPTED)
+        return refusal;
+    for (uint32_t place = 0; place < PLACES; place++)
+        pending[place].n = is_present(present, place) ? plan_writes(&records[place], pending[place].writes) : 0;
+    share_out(pending, limit);
+    for (uint32_t place = 0; place < PLACES; place++) {
+        count += pending[place].n;
+        total += pending[place].sent;
+    }
+    if (buffer_size < 4 + 2 * count + total)
+        return BUFFER_SHORT;
+    put_round(records, pending, count, total, buffer);
+    *n = count;
+    *t = total;
+    return ACCEPTED;
+}
+
+/* ---- Commands */
 
 /* The list of one write: a value so many times, from an address on. */
 static uint32_t put_command(const uint8_t *bytes, size_t size, uint8_t *buffer, size_t buffer_size, uint32_t *n, uint32_t *t,

@@ -23,6 +23,8 @@ uint32_t reference_update(uint8_t *record, size_t record_size, uint8_t *buffer, 
                           uint32_t *needed);
 uint32_t reference_reset(uint8_t *record, size_t record_size, uint8_t *buffer, size_t buffer_size, uint32_t *n, uint32_t *t);
 uint32_t reference_clear(const uint8_t *record, size_t record_size, uint8_t *buffer, size_t buffer_size, uint32_t *n, uint32_t *t);
+uint32_t reference_round(uint8_t *records, size_t records_size, uint32_t present, uint32_t limit, uint8_t *buffer, size_t buffer_size,
+                         uint32_t *n, uint32_t *t);
 uint32_t reference_transaction(const uint8_t *list, size_t list_size, uint32_t index, uint32_t *offset, uint32_t *length);
 uint32_t reference_faults(const uint8_t *record, size_t record_size, const uint8_t *bytes, size_t bytes_size, uint8_t *result,
                           size_t result_size, uint32_t *opens_agree, uint32_t *shorts_agree);

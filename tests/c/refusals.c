@@ -3,6 +3,7 @@
 
 #include "check.h"
 #include "groups.h"
+#include "panels.h"
 #include "world.h"
 
 #define HUGE_NUMBER 0xFFFFFFFFu
@@ -15,10 +16,10 @@ static struct outcome expect(uint32_t number, struct call call)
     return outcome;
 }
 
-/* A copy of the record or the chip with another byte at one place. */
+/* A copy of the record, the records or the chip with another byte at one place. */
 static struct call with_byte(struct call call, size_t at, uint8_t byte)
 {
-    static uint8_t state[LP586X_RECORD_SIZE];
+    static uint8_t state[LP586X_RECORDS_SIZE];
 
     memcpy(state, call.state, call.state_size);
     state[at] = byte;
@@ -286,6 +287,63 @@ static void feeds_by_sum(const struct world *world)
     expect(LP586X_LIST_SIZES, feed_call(world, longest, sizeof longest));
 }
 
+/* What is wrong at one place counts where it is present. */
+static void rounds_at(const uint8_t *records, uint32_t place)
+{
+    const uint32_t others = ALL_PRESENT ^ 1u << place;
+    const size_t at = place * LP586X_RECORD_SIZE;
+    struct call all = round_call(records, ALL_PRESENT, 64, LP586X_ROUND_SIZE), none = round_call(records, others, 64, 64);
+    uint8_t on_spi[LP586X_RECORDS_SIZE];
+
+    expect(LP586X_UNSOUND, with_byte(all, at, 5));
+    expect(LP586X_OK, with_byte(none, at, 5));
+    expect(LP586X_UNSOUND, with_byte(all, at + SETTINGS + 0x064, 1));
+    expect(LP586X_UNSOUND, with_byte(all, at + IMAGE + 0x064, 1));
+    expect(LP586X_OK, with_byte(none, at + IMAGE + 0x064, 1));
+    for (uint32_t pins = 0; pins < PLACES; pins++) {
+        expect(pins == place ? LP586X_OK : LP586X_WRONG_PLACE, with_byte(all, at + 2, (uint8_t)pins));
+        expect(LP586X_OK, with_byte(none, at + 2, (uint8_t)pins));
+    }
+    memcpy(on_spi, records, sizeof on_spi);
+    memcpy(on_spi + at + 1, (const uint8_t[2]){LP586X_SPI, 0}, 2);
+    expect(LP586X_WRONG_PLACE, round_call(on_spi, ALL_PRESENT, 64, LP586X_ROUND_SIZE));
+    expect(LP586X_WRONG_PLACE, round_call(on_spi, 1u << place, 12, 0));
+    expect(LP586X_OK, round_call(on_spi, others, 64, LP586X_ROUND_SIZE));
+    /* Each stands in front of those below. */
+    expect(LP586X_UNSOUND, with_byte(round_call(on_spi, ALL_PRESENT, 11, 0), at, 5));
+    expect(LP586X_ROUND_LIMIT, round_call(on_spi, ALL_PRESENT, 11, 0));
+    expect(LP586X_WRONG_PLACE, round_call(on_spi, ALL_PRESENT, 12, 0));
+    expect(LP586X_BUFFER_SHORT, round_call(on_spi, others, 12, 0));
+}
+
+/* Round: 14, 15, 16, 10. All twelve writes of panels_waiting, of three bytes each, fit into 36. */
+static void rounds(void)
+{
+    static const uint32_t above[] = {16, 17, 31, 256, 65536, 0x80000000u, HUGE_NUMBER};
+    static const uint32_t outside[] = {0, 1, 11, 4097, 65535, 65536 + 64, 0x80000000u, HUGE_NUMBER};
+    uint8_t records[LP586X_RECORDS_SIZE];
+    struct panels panels;
+    struct outcome outcome;
+
+    panels_waiting(&panels);
+    panels_lend(&panels, records);
+    for (uint32_t place = 0; place < PLACES; place++)
+        rounds_at(records, place);
+    for (size_t i = 0; i < sizeof above / sizeof *above; i++)
+        expect(LP586X_UNSOUND, round_call(records, above[i], i % 2 ? 64 : 11, i % 3 ? LP586X_ROUND_SIZE : 0));
+    for (size_t i = 0; i < sizeof outside / sizeof *outside; i++)
+        expect(LP586X_ROUND_LIMIT, round_call(records, ALL_PRESENT, outside[i], i % 2 ? LP586X_ROUND_SIZE : 0));
+    expect(LP586X_OK, round_call(records, ALL_PRESENT, 12, LP586X_ROUND_SIZE));
+    expect(LP586X_OK, round_call(records, ALL_PRESENT, 4096, LP586X_ROUND_SIZE));
+    expect(LP586X_OK, round_call(records, 0, 12, 4));
+    expect(LP586X_BUFFER_SHORT, round_call(records, 0, 12, 3));
+    outcome = expect(LP586X_BUFFER_SHORT, round_call(records, ALL_PRESENT, 36, 63));
+    check(outcome.n == OUT_UNTOUCHED && outcome.t == OUT_UNTOUCHED && outcome.needed == OUT_UNTOUCHED, "something is stored");
+    outcome = expect(LP586X_OK, round_call(records, ALL_PRESENT, 36, 64));
+    check(outcome.n == 12 && outcome.t == 36, "n is %u, t is %u", outcome.n, outcome.t);
+    check(LP586X_ROUND_LIMIT == 15 && LP586X_WRONG_PLACE == 16, "the header has other refusals");
+}
+
 void group_refusals(void)
 {
     struct world world;
@@ -312,5 +370,6 @@ void group_refusals(void)
     dots(&world, LAMP, 255, LP586X_LEVEL_TOO_HIGH);
     scenes(&world);
     lists(&world);
+    rounds();
     group_done("");
 }

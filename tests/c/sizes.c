@@ -7,12 +7,15 @@
 
 #include "check.h"
 #include "groups.h"
+#include "panels.h"
+#include "reference.h"
 #include "world.h"
 
 static const size_t sizes[] = {0, 1, 2, 3, 8, 9, 10, 255, 256, 908, 910, 911, 912, 1173, 1174, 1175, 1816, 1817, 1818, 1819,
-                               1820, 1821, 2048, 3638, 65536 + 911, 65536 + 1819, 131072 + 1819};
+                               1820, 1821, 2048, 3638, 5457, 7275, 7276, 7277, 9095, 65536 + 911, 65536 + 1819, 65536 + 7276,
+                               131072 + 1819};
 
-enum { SIZES = sizeof sizes / sizeof *sizes, LARGEST = 131072 + 1819 };
+enum { SIZES = sizeof sizes / sizeof *sizes, LARGEST = 131072 + 1819, ROOM_BEHIND = 8192 };
 
 /* Any state size but the right one is refused with 14 by every call that is lent a record or a chip. */
 static void wrong_state_sizes(const struct world *world)
@@ -96,11 +99,77 @@ static void result_sizes(const struct world *world)
     }
 }
 
+/* ---- Rounds */
+
+static void round_sizes(void)
+{
+    static uint8_t records[LARGEST];
+    struct panels panels;
+
+    panels_waiting(&panels);
+    panels_lend(&panels, records);
+    for (int i = 0; i < SIZES; i++) {
+        struct call call = round_call(records, ALL_PRESENT, 64, LP586X_ROUND_SIZE);
+
+        call.state_size = sizes[i];
+        check(both(&call).answer == (sizes[i] == LP586X_RECORDS_SIZE ? 0 : 14), "%s", call_text(&call));
+    }
+    for (size_t size = 0; size <= 200; size++) {
+        struct call call = round_call(records, ALL_PRESENT, 36, size);
+
+        check(both(&call).answer == (size < 4 + 2 * 12 + 36 ? 10 : 0), "%s", call_text(&call));
+    }
+    check(LP586X_RECORDS_SIZE == 7276 && LP586X_ROUND_SIZE == 4684, "the header has other sizes");
+}
+
+/* Every so many of the writable registers differ, 000h among them. */
+static void differ(struct world *world, uint32_t stride)
+{
+    for (uint32_t address = 0; address < LP586X_REGISTERS; address += stride)
+        world->record[SETTINGS + address] ^= (uint8_t)~reference_reserved(world->record[0], address);
+}
+
+/* The longest lists: within 4,096 bytes a round has all of the four updates, and never more than its buffer's size. */
+static void longest_rounds(uint32_t member)
+{
+    static const uint32_t most[] = {702, 84, 270, 302, 518};
+
+    for (uint32_t stride = 1; stride <= 4; stride++) {
+        struct panels panels;
+        struct outcome update, round;
+
+        panels_open(&panels, (const uint32_t[PLACES]){member, member, member, member});
+        for (uint32_t place = 0; place < PLACES; place++)
+            differ(&panels.at[place], stride);
+        round = panels_round(&panels, ALL_PRESENT, 4096, LP586X_ROUND_SIZE);
+        world_open(&panels.at[0], member, LP586X_I2C, 0);
+        differ(&panels.at[0], stride);
+        update = world_sync(&panels.at[0]);
+        check(round.answer == 0 && round.n == 4 * update.n && round.t == 4 * update.t, "member %u: n is %u, t is %u", member,
+              round.n, round.t);
+        check(stride > 1 || update.t == most[member], "member %u: the full update has %u bytes", member, update.t);
+    }
+}
+
+static void rounds_beyond_32_bits(uint8_t *memory, size_t four_gib)
+{
+    uint8_t records[LP586X_RECORDS_SIZE], buffer[LP586X_ROUND_SIZE];
+    struct panels panels;
+    uint32_t n, t;
+
+    panels_waiting(&panels);
+    panels_lend(&panels, records);
+    check(lp586x_round(records, sizeof records, ALL_PRESENT, 36, memory, four_gib + 63, &n, &t) == 0, "round, 2^32 + 63");
+    panels_lend(&panels, memory);
+    check(lp586x_round(memory, four_gib + sizeof records, ALL_PRESENT, 36, buffer, sizeof buffer, &n, &t) == 14,
+          "round, records of 2^32 + 7276");
+}
+
 /* More than 4 GiB of address space, of which the calls touch a page or two. */
 static void sizes_beyond_32_bits(const struct world *world)
 {
     const size_t four_gib = (size_t)1 << 32;
-    uint8_t *memory = mmap(NULL, four_gib + 4096, PROT_READ | PROT_WRITE, MAP_PRIVATE | MAP_ANONYMOUS | MAP_NORESERVE, -1, 0);
+    uint8_t *memory = mmap(NULL, four_gib + ROOM_BEHIND, PROT_READ | PROT_WRITE, MAP_PRIVATE | MAP_ANONYMOUS | MAP_NORESERVE, -1, 0);
     uint8_t record[LP586X_RECORD_SIZE], chip[LP586X_CHIP_SIZE], small[LP586X_DOTS] = {0}, result[LP586X_DOTS];
     uint32_t n, t, needed;
 
@@ -128,7 +197,8 @@ static void sizes_beyond_32_bits(const struct world *world)
     memcpy(memory, world->chip, sizeof world->chip);
     check(lp586x_chip_feed(memory, four_gib + LP586X_CHIP_SIZE, small, 4) == 14, "chip_feed, a chip of 2^32 + 911");
     check(lp586x_chip_power_lost(memory, four_gib + LP586X_CHIP_SIZE) == 14, "chip_power_lost, a chip of 2^32 + 911");
-    munmap(memory, four_gib + 4096);
+    rounds_beyond_32_bits(memory, four_gib);
+    munmap(memory, four_gib + ROOM_BEHIND);
 }
 
 void group_sizes(void)
@@ -144,6 +214,9 @@ void group_sizes(void)
     buffer_sizes(&world);
     clear_buffers(&world);
     result_sizes(&world);
+    round_sizes();
+    for (uint32_t member = LP586X_LP5860; member <= LP586X_LP5868T; member++)
+        longest_rounds(member);
     sizes_beyond_32_bits(&world);
     group_done("");
 }

@@ -58,6 +58,7 @@ static const char *const kind_names[] = {
     [CHIP_POWER_LOST] = "chip_power_lost",
     [FEED] = "chip_feed",
     [TRANSACTION] = "transaction",
+    [ROUND] = "round",
 };
 
 const char *call_text(const struct call *call)
@@ -215,6 +216,8 @@ static void perform(struct side *side, const struct call *call)
         side->answer = call_list(calls, call, state, buffer, n, t, needed);
     else if (call->kind == FAULTS)
         side->answer = calls->faults(state, call->state_size, input, call->input_size, buffer, call->buffer_size, n, t);
+    else if (call->kind == ROUND)
+        side->answer = calls->round(state, call->state_size, call->numbers[0], call->numbers[1], buffer, call->buffer_size, n, t);
     else if (call->kind == TRANSACTION)
         side->answer = calls->transaction(input, call->input_size, call->numbers[0], n, t);
     else
@@ -286,6 +289,21 @@ static uint32_t stored_number(int number)
     return value;
 }
 
+/* "Exactly 4 + 2n + t bytes of the buffer are written." */
+static void check_behind_list(const struct call *call)
+{
+    size_t size = 4 + 2 * (size_t)stored_number(N) + stored_number(T);
+    const uint8_t *buffer = sides[0].ranges[BUFFER].bytes;
+
+    check(size <= call->buffer_size && memcmp(buffer + size, before[BUFFER] + size, call->buffer_size - size) == 0,
+          "%s: changed the buffer behind its list of %zu bytes", call_text(call), size);
+}
+
+static int answers_a_list(enum kind kind)
+{
+    return kind == UPDATE || kind == RESET || kind == CLEAR || kind == ROUND;
+}
+
 struct outcome both(const struct call *call)
 {
     current = call;
@@ -298,6 +316,8 @@ struct outcome both(const struct call *call)
     for (int number = 0; number < RANGES; number++)
         check_range(call, number);
     check_only_read(call);
+    if (sides[0].answer == 0 && answers_a_list(call->kind))
+        check_behind_list(call);
     return (struct outcome){.answer = sides[0].answer,
                             .n = stored_number(N),
                             .t = stored_number(T),

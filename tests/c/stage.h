@@ -2,7 +2,8 @@
  *
  * Each range of bytes that a call is lent stands alone: canaries in front of it, and behind it either canaries or the end of the
  * memory that the program may touch. After the call both sides must agree in the answer and in every lent byte; a refused call
- * must have changed no byte, but for the length needed that refusal 10 of Update stores; no canary may have changed.
+ * must have changed no byte, but for the length needed that refusal 10 of Update stores; behind its list the buffer must hold what
+ * it held; no canary may have changed.
  */
 #ifndef STAGE_H
 #define STAGE_H
@@ -25,13 +26,14 @@ enum kind {
     CHIP_AT_RESET,
     CHIP_POWER_LOST,
     FEED,
-    TRANSACTION
+    TRANSACTION,
+    ROUND
 };
 
 struct call {
     enum kind kind;
     uint32_t numbers[3];  /* those of the call, in the header's order */
-    const uint8_t *state; /* the record or the chip that is lent, as it stands before */
+    const uint8_t *state; /* the record, the four records or the chip that is lent, as it stands before */
     size_t state_size;
     const uint8_t *input; /* scene, list or fault bytes */
     size_t input_size;

@@ -9,7 +9,7 @@
 
 enum { MOST = 65535 / 3 }; /* as many transactions as t has room for */
 
-static uint32_t get_two(const uint8_t *at)
+uint32_t get_two(const uint8_t *at)
 {
     return at[0] + 256u * at[1];
 }

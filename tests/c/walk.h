@@ -7,6 +7,9 @@
 
 #include "world.h"
 
+/* A number of two bytes, low byte first. */
+uint32_t get_two(const uint8_t *at);
+
 /* Finds each transaction of a list of good sizes by the library, and checks its place against the lengths, which are read here from the
  * front on; and that there is no other. Answers n. */
 uint32_t walk(const uint8_t *list, size_t size);

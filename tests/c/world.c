@@ -130,6 +130,16 @@ void world_any_faults(struct world *world)
         world->chip[CHIP_REGISTERS + 0x064 + i] = (uint8_t)random_bits();
 }
 
+void scatter(uint32_t member, uint8_t *image, uint32_t times)
+{
+    for (uint32_t address = 0; address < LP586X_REGISTERS; address++)
+        if (one_in(times)) {
+            uint8_t reserved = reference_reserved(member, address);
+
+            image[address] = (uint8_t)((image[address] & reserved) | (random_bits() & ~reserved));
+        }
+}
+
 struct outcome world_sync(struct world *world)
 {
     static uint8_t list[LP586X_UPDATE_SIZE];

@@ -35,6 +35,9 @@ uint32_t world_chip_power_lost(struct world *world);
 /* Any bytes at 064h to 0A6h of the chip. */
 void world_any_faults(struct world *world);
 
+/* Random values in the writable bits of an image: one address in so many. */
+void scatter(uint32_t member, uint8_t *image, uint32_t times);
+
 /* An update that must be accepted and is fed to the chip. */
 struct outcome world_sync(struct world *world);
 
