@@ -1,2 +1,3 @@
-mod Waiting
-mod Portions
+pub mod Waiting
+pub mod Portions
+pub mod Putting

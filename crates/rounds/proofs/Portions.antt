@@ -143,47 +143,57 @@ module _ (r : Record) where
 
 -- ---- the loops
 
--- the places of a part, and that it is the next one of a portion that began so
-pub record Going (r : Record) (room left count : ℕ) (start end : ℕ) : Type 0 where
+-- a part's places, and that it is the next one of a portion that begins with ws
+pub record Going (r : Record) (room left : ℕ) (ws : List Write) (start end : ℕ) : Type 0 where
   pub fits : Fits left start end
   pub from : ℕ
-  pub ws : List Write
-  pub counted : length ws ≡ count
-  pub few : 3 * count ≤ cost ws
+  pub few : 3 * length ws ≤ cost ws
   pub begun : Begun r room from left ws
   pub next : NextPart r from left start end
 
 module _ (r : Record) where
-  pub going-start : Sound r → (room start end : ℕ) → Fits room start end → NextPart r 0 room start end → Going r room room 0 start end
-  going-start s room start end f n = record {
-    fits = f;
-    from = 0;
-    ws = [];
-    counted = refl;
-    few = omega arith;
-    begun = begun-start r s room;
-    next = n;
-  }
+  pub going-start : Sound r → (room start end : ℕ) → Fits room start end → NextPart r 0 room start end → Going r room room [] start end
+  going-start s room start end f n = record { fits = f; from = 0; few = omega arith; begun = begun-start r s room; next = n }
 
-  module _ (room left count start end : ℕ) (g : Going r room left count start end) where
+  module _ (room left : ℕ) (ws : List Write) (start end : ℕ) (g : Going r room left ws start end) where
     pub going-more : start < 908 → (next last : ℕ) → Fits (left - (end - start + 2)) next last → NextPart r end (left - (end - start + 2)) next last →
-        Going r room (left - (end - start + 2)) (count + 1) next last
+        Going r room (left - (end - start + 2)) (ws ++ one start end) next last
     going-more u next last f n = record {
       fits = f;
       from = end;
-      ws = g .ws ++ one start end;
-      counted = length-append (g .ws) (one start end) ∙ omega (arith, g .counted);
-      few = omega (arith, g .few, g .fits .some u, cost-append 2 (g .ws) (one start end));
-      begun = g .next .more room (g .ws) (g .begun) u;
+      few = omega (arith, g .few, g .fits .some u, cost-append 2 ws (one start end), length-append ws (one start end));
+      begun = g .next .more room ws (g .begun) u;
       next = n;
     }
 
     -- all of it is sent
-    pub going-done : 908 ≤ start → Sized (portion room (writesOf r)) count (room - left)
+    pub going-done : 908 ≤ start → Sized (portion room (writesOf r)) (length ws) (room - left)
     going-done u =
-        let is = g .next .none room (g .ws) (g .begun) u in
-        let bytes = writes-cost (r .settings) (g .ws) (all-weaken (Run (r .settings)) (λ (w : Write). w .start + w .len ≤ length (r .settings)) (λ w q. q .1) (g .ws) (g .begun .sent)) in
+        let is = g .next .none room ws (g .begun) u in
+        let inside = all-weaken (Run (r .settings)) (λ (w : Write). w .start + w .len ≤ length (r .settings)) (λ w q. q .1) ws (g .begun .sent) in
         record {
-          count-is = sym (ap length is ∙ length-map (g .ws) (dataOf (r .settings)) ∙ g .counted);
-          bytes-are = sym (ap busBytes is ∙ bytes ∙ omega (arith, g .begun .spent));
+          count-is = sym (ap length is ∙ length-map ws (dataOf (r .settings)));
+          bytes-are = sym (ap busBytes is ∙ writes-cost (r .settings) ws inside ∙ omega (arith, g .begun .spent));
         }
+
+  -- so many writes are counted
+  pub record Counting (room left count start end : ℕ) : Type 0 where
+    pub ws : List Write
+    pub counted : length ws ≡ count
+    pub going : Going r room left ws start end
+
+  pub counting-start : Sound r → (room start end : ℕ) → Fits room start end → NextPart r 0 room start end → Counting room room 0 start end
+  counting-start s room start end f n = record { ws = []; counted = refl; going = going-start s room start end f n }
+
+  module _ (room left count start end : ℕ) (c : Counting room left count start end) where
+    pub counting-more : start < 908 → (next last : ℕ) → Fits (left - (end - start + 2)) next last → NextPart r end (left - (end - start + 2)) next last →
+        Counting room (left - (end - start + 2)) (count + 1) next last
+    counting-more u next last f n = record {
+      ws = c .ws ++ one start end;
+      counted = length-append (c .ws) (one start end) ∙ omega (arith, c .counted);
+      going = going-more room left (c .ws) start end (c .going) u next last f n;
+    }
+
+    pub counting-done : 908 ≤ start → Sized (portion room (writesOf r)) count (room - left)
+    counting-done u =
+        subst (λ (k : ℕ). Sized (portion room (writesOf r)) k (room - left)) (c .counted) (going-done room left (c .ws) start end (c .going) u)

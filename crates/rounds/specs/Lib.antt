@@ -5,3 +5,4 @@ pub mod AcceptLaws
 pub mod AbsentLaws
 pub mod RoundExamples
 pub mod Parts
+pub mod Dealing

@@ -1,9 +1,11 @@
 // Four panels on one bus: a round sends each present chip a part of what waits for it, at most so many bus bytes in all.
+mod dealing;
 mod parts;
 
 ghost use mathlib.Core.Path.{_≡_};
 ghost use lib.ListN.{length};
 ghost use Rattle.rounds.specs.Round.{presentAt, recordAt, roundBuffer, roundOf};
+use host::Header;
 use host::Record;
 use update::ListAnswer;
 
@@ -13,6 +15,14 @@ pub struct Present {
     pub second: bool,
     pub third: bool,
     pub fourth: bool,
+}
+
+// The headers of the records of the four places.
+pub struct Headers {
+    pub first: Header,
+    pub second: Header,
+    pub third: Header,
+    pub fourth: Header,
 }
 
 // The records of the four places.

@@ -1,15 +1,13 @@
 // A part of what waits for a chip, write by write: the longest beginning of an update's writes that fits so many bus bytes, the last of them
 // cut where it has to be.
 ghost use mathlib.Core.Path.{_≡_};
-ghost use mathlib.Core.List.{map};
 ghost use Prim.Native.Nat.{_+_, _*_, _≤_, _<_};
 ghost use lib.ListN.{length};
-ghost use lib.Seq.{sets};
-ghost use Rattle.burst.specs.Burst.{busBytes, transactionOf, joined, sizesBytes};
 ghost use Rattle.plan.specs.Portion.{portion};
 ghost use Rattle.plan.specs.Update.{storeAll};
 ghost use Rattle.host.specs.Record.{recordOf};
 ghost use Rattle.update.specs.Update.{writesOf};
+ghost use Rattle.rounds.specs.Dealing.{putPart, partTransactions};
 ghost use Rattle.rounds.specs.Parts.{Scanned, Past, Reached, NextIs, NextPart, Fits, Sized};
 use writes::Count;
 use writes::Matrix;
@@ -123,4 +121,49 @@ pub(crate) fn part_size<'a>(
         writes: writes,
         bytes: room - left,
     }
+}
+
+// The lengths and the transactions of what fits so much room, from places of the buffer on; the image, which is a copy of the old one, takes
+// what is sent. It answers the index of the next transaction.
+pub(crate) fn put_writes<'a>(
+    buffer: &mut [u8],
+    index: usize,
+    at: usize,
+    kinds: &[u8],
+    matrix: Matrix,
+    settings: &'a [u8],
+    old: &'a [u8],
+    image: &mut [u8],
+    room: usize,
+) -> usize
+    requires { ⌜
+        Scanned (now kinds) matrix (now settings) (now old) × (room ≤ 8192) × (at ≤ 65536)
+        × (4 + 2 * (index + length (portion room (writesOf (recordOf (matrix .header) (now settings) (now old))))) ≤ at)
+        ⌝ }
+    ensures { λ r. ⌜ r ≡ index + length (portion room (writesOf (recordOf (matrix .header) (now (settings .entry)) (now (old .entry))))) ⌝ }
+    ensures { λ _. ⌜
+        now (buffer .exit) ≡
+        putPart (now (buffer .entry)) index at (partTransactions (recordOf (matrix .header) (now (settings .entry)) (now (old .entry))) room)
+        ⌝ }
+    ensures { λ _. ⌜
+        now (image .exit) ≡
+        storeAll (portion room (writesOf (recordOf (matrix .header) (now (settings .entry)) (now (old .entry))))) (now (image .entry))
+        ⌝ }
+{
+    let stop = at + room;
+    let mut next = index;
+    let mut left = room;
+    let mut part = next_part(kinds, matrix, settings, old, 0, room);
+    while part.start < 908 {
+        let start = part.start;
+        let end = part.end;
+        let len = end - start;
+        writes::put_length(buffer, next, len + 2);
+        writes::put_transaction(buffer, stop - left, matrix.header, settings, start, len);
+        writes::copy(image, start, settings, start, len);
+        next += 1;
+        left -= len + 2;
+        part = next_part(kinds, matrix, settings, old, end, left);
+    }
+    next
 }

@@ -111,7 +111,7 @@ pub writes-cost : (settings : List ℕ) (ws : List Write) → Inside settings ws
 writes-cost settings [] i = refl
 writes-cost settings (w ∷ ws) i = omega (arith, data-length settings w (i .0), writes-cost settings ws (i .1))
 
-lengths-are : (h : Header) (settings : List ℕ) (ws : List Write) → Inside settings ws →
+pub lengths-are : (h : Header) (settings : List ℕ) (ws : List Write) → Inside settings ws →
     map length (map (transactionOf (h .bus) (h .pins)) (map (dataOf settings) ws)) ≡ transactionLengths ws
 lengths-are h settings [] i = refl
 lengths-are h settings (w ∷ ws) i = ap₂ _∷_ (transaction-length h settings w (i .0)) (lengths-are h settings ws (i .1))
