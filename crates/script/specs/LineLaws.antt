@@ -11,9 +11,9 @@ use lib.ListN.{length, getD}
 use Rattle.calls.specs.declared.Request.{Request}
 use Rattle.calls.specs.declared.Request.the-variants.{Set, Reset, PowerLost, Update}
 use Rattle.script.specs.declared.command.Command.{Command}
-use Rattle.script.specs.declared.command.Command.the-variants.{Bad, Open, Call, Clear, Feed, Faults, Show, Poke, Header, Check}
+use Rattle.script.specs.declared.command.Command.the-variants.{Bad, Open, Call, Clear, Feed, Faults, Show, Poke, Header, Check, Pending}
 use Rattle.script.specs.declared.command.Line.{Line}
-use Rattle.script.specs.declared.command.Line.the-variants.{Run, Aside}
+use Rattle.script.specs.declared.command.Line.the-variants.{Run, Aside, Panel, Round}
 use Rattle.script.specs.declared.command.Aside as asides
 use Rattle.script.specs.declared.command.Aside.the-variants.{Silent, Echo, Lamps, FaultMap, Diff, List as LastList}
 use Rattle.script.specs.declared.command.Lent.{Lent}
@@ -29,13 +29,13 @@ use Rattle.script.specs.Table.{placeOf}
 use Rattle.script.specs.Lines.{bytes, part, entry, onOff, numberKinds, kindAmong, parts, entries, switches}
 use Rattle.script.specs.Lines.{Row, lines, firstWords, noLine, lineAt, namedOf, numeralBy, argumentOf, valueAt, threeOf, argumentsOf, callAt, calledBy, judged, isSilent, tableLine, lineOf}
 
--- ---- what a command asks for is there: the line of a byte string has at most 8,192 bytes, a buffer at most 4,096, and a byte that is put
--- behind the calls' back is one, at an address below 908
+-- ---- what a command asks for is there: the line of a byte string has at most 8,192 bytes, a buffer at most 8,192, a byte that is put
+-- behind the calls' back is one, at an address below 908, and there are four panels
 
 unfoldable pub LentFits : List ℕ → Lent → Type 0
 LentFits l Nothing = 0 ≤ 0
 LentFits l (Word n) = length l ≤ 8192
-LentFits l (Room n) = n ≤ 4096
+LentFits l (Room n) = n ≤ 8192
 
 -- a buffer is lent to a call that writes a list, and to no other
 unfoldable pub BufferFits : Request → Lent → Type 0
@@ -58,17 +58,20 @@ unfoldable pub CommandFits : List ℕ → Command → Type 0
 CommandFits l Bad = 0 ≤ 0
 CommandFits l (Open m b p) = 0 ≤ 0
 CommandFits l (Call q lent) = LentFits l lent × BufferFits q lent
-CommandFits l (Clear n) = n ≤ 4096
+CommandFits l (Clear n) = n ≤ 8192
 CommandFits l (Feed n) = length l ≤ 8192
-CommandFits l (Faults k n) = (length l ≤ 8192) × (n ≤ 4096)
+CommandFits l (Faults k n) = (length l ≤ 8192) × (n ≤ 8192)
 CommandFits l (Show p) = 0 ≤ 0
 CommandFits l (Poke p a v) = (a < 908) × (v < 256)
 CommandFits l (Header e v) = v < 256
 CommandFits l Check = 0 ≤ 0
+CommandFits l Pending = 0 ≤ 0
 
 unfoldable pub Fits : List ℕ → Line → Type 0
 Fits l (Run c) = CommandFits l c
 Fits l (Aside x) = AsideFits l x
+Fits l (Panel k) = k < 4
+Fits l (Round p b n) = (p < 16) × (n ≤ 8192)
 
 -- the most that a word of a kind says
 mostOf : ℕ → ℕ

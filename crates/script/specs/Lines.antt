@@ -9,9 +9,9 @@ use lib.Dec.{eqb, ltb, leb}
 use lib.ListN.{length, getD, take}
 use Rattle.calls.specs.declared.Setting.the-variants.{Register, Lamp, Group, Switch, Scene}
 use Rattle.calls.specs.declared.Request.the-variants.{Set, Reset, PowerLost, Update}
-use Rattle.script.specs.declared.command.Command.the-variants.{Bad, Open, Call, Clear, Feed, Faults, Show, Poke, Header, Check}
+use Rattle.script.specs.declared.command.Command.the-variants.{Bad, Open, Call, Clear, Feed, Faults, Show, Poke, Header, Check, Pending}
 use Rattle.script.specs.declared.command.Line.{Line}
-use Rattle.script.specs.declared.command.Line.the-variants.{Run, Aside}
+use Rattle.script.specs.declared.command.Line.the-variants.{Run, Aside, Panel, Round}
 use Rattle.script.specs.declared.command.Aside.the-variants.{Silent, Echo, Lamps, FaultMap, Diff, List as LastList}
 use Rattle.script.specs.declared.command.Lent.the-variants.{Nothing, Word, Room}
 use Rattle.script.specs.declared.command.Part.{Part}
@@ -50,9 +50,17 @@ small = code "n"
 abbrev pub address : ℕ
 address = code "a"
 
--- "A buffer of L bytes (L at most 4,096, else `?`)"
+-- "A buffer of L bytes (L at most 8,192, else `?`)"
 abbrev pub room : ℕ
 room = code "r"
+
+-- "`panel K` (K 0 to 3, else `?`)"
+abbrev pub place : ℕ
+place = code "k"
+
+-- "P decimal 0 to 15 (else `?`), bit k says that panel k is present"
+abbrev pub marks : ℕ
+marks = code "m"
 
 -- "A byte string is pairs of hex digits"
 abbrev pub bytes : ℕ
@@ -82,7 +90,9 @@ numberKinds =
     ∷ kind byte 16 8192 0xFF
     ∷ kind small 10 8192 255
     ∷ kind address 16 8192 0x38B
-    ∷ kind room 10 8192 4096
+    ∷ kind room 10 8192 8192
+    ∷ kind place 10 8192 3
+    ∷ kind marks 10 8192 15
     ∷ []
 
 -- the kind of letter k; where there is none, one that has no numbers
@@ -145,6 +155,9 @@ lines =
     ∷ row "faultmap" (bytes ∷ []) (λ x y z. Aside (FaultMap 1))
     ∷ row "echo" (onOff ∷ []) (λ w y z. Aside (Echo (eqb w 0)))
     ∷ row "list" [] (λ x y z. Aside LastList)
+    ∷ row "pending" [] (λ x y z. Run Pending)
+    ∷ row "panel" (place ∷ []) (λ k y z. Panel k)
+    ∷ row "round" (marks ∷ decimal ∷ room ∷ []) (λ p b n. Round p b n)
     ∷ []
 
 -- the first word of each line

@@ -1,4 +1,4 @@
-// A line as a command, or as an aside.
+// A line as a command, as an aside, or as a line about the four panels.
 use calls::Request;
 
 // The bytes that are lent to a call.
@@ -55,10 +55,16 @@ pub enum Command {
     Poke(Part, usize, usize),
     Header(Entry, usize),
     Check,
+    // what an update would send now
+    Pending,
 }
 
-// What a line of a script is. A line that is neither is a bad command.
+// What a line of a script is: a command and an aside are about the current panel. A line that is none of these is a bad command.
 pub enum Line {
     Run(Command),
     Aside(Aside),
+    // the panel of this place is the current one from here on
+    Panel(usize),
+    // a round: its marks, bit k that of place k, its B, and the length of its buffer
+    Round(usize, usize, usize),
 }

@@ -30,7 +30,7 @@ struct NumberKind {
     most: usize,
 }
 
-const NUMBER_KINDS: usize = 6;
+const NUMBER_KINDS: usize = 8;
 
 const NUMBERS: [NumberKind; NUMBER_KINDS] = [
     // a number
@@ -73,7 +73,21 @@ const NUMBERS: [NumberKind; NUMBER_KINDS] = [
         letter: b'r',
         base: 10,
         digits: LONGEST,
-        most: 4096,
+        most: 8192,
+    },
+    // the place of a panel
+    NumberKind {
+        letter: b'k',
+        base: 10,
+        digits: LONGEST,
+        most: 3,
+    },
+    // a mark of presence for each place
+    NumberKind {
+        letter: b'm',
+        base: 10,
+        digits: LONGEST,
+        most: 15,
     },
 ];
 
@@ -86,7 +100,7 @@ const ENTRY: u8 = b'e';
 // `on` or `off`
 const ON_OFF: u8 = b'o';
 
-const ROWS: usize = 23;
+const ROWS: usize = 26;
 
 // The first word of each line, and the kinds of its other words. The settings that are lent nothing stand first: row n is arm n of `call`,
 // and row 4 + n arm n of `other`.
@@ -113,7 +127,10 @@ const LINES: [u8; 16 * ROWS] = *b"\
     diff            \
     faultmap s      \
     echo o          \
-    list            ";
+    list            \
+    pending         \
+    panel k         \
+    round mdr       ";
 
 // What a line is, by its row and what its other words say.
 fn call(row: usize, first: usize, second: usize, third: usize) -> Line
@@ -178,6 +195,9 @@ fn other(place: usize, first: usize, second: usize, third: usize) -> Line
         16 => Line::Aside(Aside::FaultMap(1)),
         17 => Line::Aside(Aside::Echo(first == 0)),
         18 => Line::Aside(Aside::List),
+        19 => Line::Run(Command::Pending),
+        20 => Line::Panel(first),
+        21 => Line::Round(first, second, third),
         _ => Line::Run(Command::Bad),
     }
 }

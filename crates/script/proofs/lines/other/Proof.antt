@@ -94,8 +94,20 @@ unfolding callAt lineAt lines
 returns-19 c = rw (c .match .keys19) refl
 
 returns-20 : tie.Need-returns-20
+unfolding callAt lineAt lines
+returns-20 c = rw (c .match .keys20) refl
+
+returns-21 : tie.Need-returns-21
+unfolding callAt lineAt lines
+returns-21 c = rw (c .match .keys21) refl
+
+returns-22 : tie.Need-returns-22
+unfolding callAt lineAt lines
+returns-22 c = rw (c .match .keys22) refl
+
+returns-23 : tie.Need-returns-23
 unfolding lines
-returns-20 c = let behind = others-above _ 19 (c .match .rest) in no-call _ _ _ _ (omega (arith, behind))
+returns-23 c = let behind = others-above _ 22 (c .match .rest) in no-call _ _ _ _ (omega (arith, behind))
 
 pub other-spec : {M : Type 1} → statement M
 other-spec =
@@ -123,4 +135,7 @@ other-spec =
     returns-17
     returns-18
     returns-19
-    returns-20)
+    returns-20
+    returns-21
+    returns-22
+    returns-23)
