@@ -31,9 +31,9 @@ word-least zero l = omega (arith, length-take (lengthTo 0x20 l) l)
 word-least (suc n) l = let rest = word-least n (drop (suc (lengthTo 0x20 l)) l) in omega (arith, rest, length-drop (suc (lengthTo 0x20 l)) l)
 
 -- the bytes of a word of a line
-pub decoded : (l old new w : List ℕ) (n r : ℕ) → length l ≤ 8192 → length old ≡ 4096 → w ≡ wordAt l n → Puts old 0 (bytesOf w) new r →
+pub decoded : (l old new w : List ℕ) (n r : ℕ) → length l ≤ 8192 → 4096 ≤ length old → w ≡ wordAt l n → Puts old 0 (bytesOf w) new r →
     (r ≤ 4096) × (take r new ≡ bytesOf (wordAt l n))
 decoded l old new w n r hl ho e p =
-    let room : length (bytesOf w) ≤ length old = omega (arith, pairs-length (length w) w (omega arith), word-least n l, ap length e) in
-    let d = whole old (bytesOf w) new r room p in
+    let room : length (bytesOf w) ≤ 4096 = omega (arith, pairs-length (length w) w (omega arith), word-least n l, ap length e) in
+    let d = whole old (bytesOf w) new r (omega arith) p in
     (omega (arith, d .0), d .1 ∙ ap bytesOf e)

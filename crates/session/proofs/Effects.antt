@@ -1,8 +1,8 @@
 -- What a line does, over plain values: r is what the program gives back of it.
 -- Assumes nothing.
 use mathlib.Core.Path.{_≡_, refl, sym, ap, subst, _∙_}
-use mathlib.Core.Bool.{true}
-use mathlib.Core.List.{List, [], _++_}
+use mathlib.Core.Bool.{Bool, true, false}
+use mathlib.Core.List.{List, [], _∷_, _++_}
 use Prim.Native.Nat.{ℕ, _≤_}
 use native.Mathlib.Omega.{arith}
 use lib.ListN.{length, take, drop, length-append, length-take}
@@ -10,13 +10,20 @@ use lib.Seq.{take-length, take-append-le, take-at, length-take-le, length-front}
 use Rattle.map.specs.declared.refusals.Answer.{Answer}
 use Rattle.map.specs.declared.refusals.Answer.the-variants.{Accepted, Refused}
 use Rattle.map.specs.declared.refusals.Refusal.{Refusal}
+use Rattle.map.specs.declared.refusals.Refusal.the-variants.{Unsound}
 use Rattle.map.specs.declared.refusals.Numbers as numbers
-use Rattle.map.specs.Refusals.{numbersOf, openAnswer, opens}
+use Rattle.map.specs.Refusals.{refusalNumber, numbersOf, openAnswer, opens}
+use Rattle.burst.specs.Burst.{busBytes}
 use Rattle.faults.specs.declared.Answer as faults
 use Rattle.faults.specs.Faults.{answerNumbers, faultsAnswer, faultsResult}
 use Rattle.calls.specs.declared.Request.{Request}
 use Rattle.host.specs.declared.Changed.{Changed}
-use Rattle.host.specs.Record.{openOf}
+use Rattle.host.specs.declared.Record.{Record}
+use Rattle.host.specs.Record.{openOf, soundOf}
+use Rattle.update.specs.declared.ListAnswer.the-variants.{Listed, Refused as ListRefused}
+use Rattle.update.specs.declared.Updated.{Updated}
+use Rattle.update.specs.Update.{writesOf, sendAnswer, sendOf, updateOf}
+use Rattle.update.specs.BoundLaws.{always-room}
 use Rattle.chip.specs.declared.Opened.{Opened}
 use Rattle.chip.specs.declared.Fed.{Fed}
 use Rattle.chip.specs.Chip.{atResetOf, feedOf}
@@ -38,7 +45,7 @@ use Rattle.replies.specs.declared.Reply.{Reply}
 use Rattle.replies.specs.declared.Reply.the-variants.{Bad, Numbers, Lent, Bytes, Same, Differs}
 use Rattle.session.specs.declared.Session.{Session}
 use Rattle.session.specs.declared.outcomes.Outcome.{Outcome}
-use Rattle.session.specs.Run.{Effect, Does, Plain, Words, showing, answered, numbered, openedSession, openEffect, withWorld, stepEffect, told, callEffect, feedEffect, faultsEffect, shownBytes, effectOf}
+use Rattle.session.specs.Run.{Effect, Does, Plain, Words, showing, answered, numbered, openedSession, openEffect, withWorld, stepEffect, told, callEffect, feedEffect, faultsEffect, shownBytes, pendingNumbers, effectOf}
 use Rattle.session.proofs.Buffers.{whole}
 
 pub plain-words : (r : Reply) → Plain r → Words r
@@ -84,7 +91,7 @@ unfolding callEffect told
 call-does s q lent old new g x r eg ex d = rw (← eg, ← ex) (rw (take-length new) at (d new (omega arith)))
 
 -- a call that shows the first n bytes of the buffer
-module _ (n : ℕ) (part old : List ℕ) (h : n ≤ 4096) (o : length old ≡ 4096) (e : length part ≡ length (take n old)) where
+module _ (n : ℕ) (part old : List ℕ) (h : n ≤ 8192) (o : length old ≡ 8192) (e : length part ≡ length (take n old)) where
   abbrev new : List ℕ
   new = part ++ drop n old
 
@@ -106,12 +113,43 @@ module _ (n : ℕ) (part old : List ℕ) (h : n ≤ 4096) (o : length old ≡ 40
 
 -- ---- `settings`, `image`, `chip`
 
-pub shown-does : (old bytes new : List ℕ) (n : ℕ) (s : Session) → length bytes ≤ 4096 → length old ≡ 4096 → length new ≡ length old → Puts old 0 bytes new n →
+pub shown-does : (old bytes new : List ℕ) (n : ℕ) (s : Session) → length bytes ≤ 8192 → length old ≡ 8192 → length new ≡ length old → Puts old 0 bytes new n →
     Does (record { reply = Bytes; shown = n; session = s }) new (shownBytes s bytes)
 unfolding shownBytes Words
 shown-does old bytes new n s h o k p =
     let w = whole old bytes new n (omega arith) p in
     record { is = rw (w .1) refl; within = omega (arith, w .0); words = omega arith }
+
+-- ---- `pending`
+
+-- x is an update with room for every list
+module _ (r : Record) (x : Updated) (e : x ≡ updateOf r 1174) where
+  sound-listed : soundOf r ≡ true → x .answer ≡ Listed (length (writesOf r)) (busBytes (writesOf r))
+  unfolding sendOf
+  sound-listed s = ap (λ (y : Updated). y .answer) e ∙ always-room r s 1174 (omega arith)
+
+  unsound-refused : soundOf r ≡ false → x .answer ≡ ListRefused Unsound
+  unfolding sendOf sendAnswer
+  unsound-refused s = ap (λ (y : Updated). y .answer) e ∙ rw s refl
+
+  pub pending-listed : (n t : ℕ) → x .answer ≡ Listed n t → n ∷ t ∷ [] ≡ pendingNumbers r
+  unfolding pendingNumbers
+  pending-listed n t is = go (soundOf r) refl
+    where
+      go : (b : Bool) → soundOf r ≡ b → n ∷ t ∷ [] ≡ pendingNumbers r
+      go true s = let same = sound-listed s in rw s (cc)
+      go false s =
+          let other = unsound-refused s in
+          let z : _≡_ {A = ℕ} 0 1 = cc in
+          absurd (omega arith)
+
+  pub pending-refused : ((n t : ℕ) → x .answer ≡ Listed n t → ⊥) → refusalNumber Unsound ∷ [] ≡ pendingNumbers r
+  unfolding pendingNumbers
+  pending-refused none = go (soundOf r) refl
+    where
+      go : (b : Bool) → soundOf r ≡ b → refusalNumber Unsound ∷ [] ≡ pendingNumbers r
+      go true s = absurd (none _ _ (sound-listed s))
+      go false s = rw s refl
 
 -- ---- a command: b is the buffer before it, e after it
 

@@ -1,5 +1,5 @@
--- What a line replies has at most 8,203 bytes, since an answer with a buffer has at most `0 n t` with three digits for n and for t,
--- a buffer at most 8,192 digits, and between and behind them stand a space and LF. An answer without a buffer has at most five numbers
+-- What a command replies has at most 16,395 bytes, since an answer with a buffer has at most `0 n t` with three digits for n and for t,
+-- a buffer at most 16,384 digits, and between and behind them stand a space and LF. An answer without a buffer has at most five numbers
 -- of 20 digits, whatever the call.
 -- Assumes nothing.
 use mathlib.Core.Path.{_≡_, refl, ap, subst}
@@ -42,7 +42,7 @@ use Rattle.replies.specs.Replies.{numbersText, lentText, differsWord, replyText
 use Rattle.replies.specs.ReplyLaws.{numbers-most, numbers-within, first-within}
 use Rattle.session.specs.declared.Session.{Session}
 use Rattle.session.specs.declared.outcomes.Outcome.{Outcome}
-use Rattle.session.specs.Run.{Effect, Does, Plain, Words, alone, answered, numbered, openEffect, stepEffect, callEffect, feedEffect, faultsEffect, shownBytes, behindBack, compared, lentOf, showing, effectOf}
+use Rattle.session.specs.Run.{Effect, Does, Plain, Words, alone, answered, numbered, openEffect, stepEffect, callEffect, feedEffect, faultsEffect, shownBytes, behindBack, compared, pendingEffect, lentOf, showing, effectOf}
 use Rattle.session.specs.CheckLaws.{compared-plain}
 
 -- ---- answers
@@ -116,8 +116,8 @@ ShortLent Bytes = 0 ≤ 0
 ShortLent Same = 0 ≤ 0
 ShortLent (Differs a) = 0 ≤ 0
 
-shown-most : (x : List ℕ) → length x ≤ 4096 → length (bytesText x) ≤ 8192
-shown-most x h = bytes-length 8192 x (omega arith) (omega arith)
+shown-most : (x : List ℕ) → length x ≤ 8192 → length (bytesText x) ≤ 16384
+shown-most x h = bytes-length 16384 x (omega arith) (omega arith)
 
 words-most : (n : numbers.Numbers) → Words (Numbers n) → length (numbersText (numbersIn n)) ≤ 104
 unfolding Words numbersIn
@@ -129,7 +129,7 @@ words-most n h =
           (omega arith, (omega arith, (omega arith, (omega arith, tt)))),
     )
 
-reply-most : (r : Reply) (x : List ℕ) → length x ≤ 4096 → Words r → ShortLent r → length (replyText r x) ≤ 8202
+reply-most : (r : Reply) (x : List ℕ) → length x ≤ 8192 → Words r → ShortLent r → length (replyText r x) ≤ 16394
 unfolding replyText ShortLent lentText
 reply-most Bad x h w s = omega arith
 reply-most (Numbers n) x h w s = omega (arith, words-most n w)
@@ -160,7 +160,7 @@ call-short w PowerLost (Room n) bytes x s f = absurd (omega arith)
 call-short w Update (Room n) bytes x s f = update-most w bytes
 
 line-short : (s : Session) (c : Command) (l b : List ℕ) → CommandFits l c → ShortLent (effectOf s c l b .reply)
-unfolding effectOf openEffect callEffect stepEffect feedEffect faultsEffect shownBytes behindBack numbered alone answered CommandFits ShortLent
+unfolding effectOf openEffect callEffect stepEffect feedEffect faultsEffect shownBytes behindBack pendingEffect numbered alone answered CommandFits ShortLent
 line-short s commands.Bad l b f = omega arith
 line-short s (commands.Open m bus p) l b f = omega arith
 line-short s (commands.Call q lent) l b f = call-short (s .world) q lent (lentOf lent l b) _ _ (f .1)
@@ -171,17 +171,18 @@ line-short s (commands.Show p) l b f = omega arith
 line-short s (commands.Poke p a v) l b f = omega arith
 line-short s (commands.Header e v) l b f = omega arith
 line-short s commands.Check l b f = plain-short (compared s) (compared-plain s)
+line-short s commands.Pending l b f = omega arith
 
--- no call's line of reply has more bytes, its LF counted: `0 n t BUFFER` with three digits for n and for t, and 4,096 bytes
+-- no command's line of reply has more bytes, its LF counted: `0 n t BUFFER` with three digits for n and for t, and 8,192 bytes
 abbrev pub longestReply : ℕ
-longestReply = 8203
+longestReply = 16395
 
 -- what a command replies that is a line's: it shows no more than the longest buffer, and its numbers are words; `run` promises both
 module _ (s : Session) (c : Command) (l b : List ℕ) (is : Run c ≡ lineOf l) where
   abbrev effect : Effect
   effect = effectOf s c l b
 
-  line-most : length (effect .shown) ≤ 4096 → Words (effect .reply) → length (replyLine (effect .reply) (effect .shown)) ≤ longestReply
+  line-most : length (effect .shown) ≤ 8192 → Words (effect .reply) → length (replyLine (effect .reply) (effect .shown)) ≤ longestReply
   unfolding replyLine Fits
   line-most h w =
       let short = line-short s c l b (fits l (Run c) is) in
@@ -193,7 +194,7 @@ module _ (s : Session) (c : Command) (l b : List ℕ) (is : Run c ≡ lineOf l) 
     pub effect-is : showing r e ≡ effect
     pub most : length (replyLine (effect .reply) (effect .shown)) ≤ longestReply
 
-  pub replies : (r : Outcome) (e : List ℕ) → length e ≡ 4096 → Does r e effect → Replies r e
+  pub replies : (r : Outcome) (e : List ℕ) → length e ≡ 8192 → Does r e effect → Replies r e
   replies r e h d =
       let shown : take (r .shown) e ≡ effect .shown = ap (λ (x : Effect). x .shown) (d .is) in
       record {

@@ -11,10 +11,14 @@ use Rattle.map.specs.Map.{writableOf}
 use Rattle.map.specs.declared.refusals.Answer.{Answer}
 use Rattle.map.specs.declared.refusals.Answer.the-variants.{Accepted}
 use Rattle.map.specs.declared.refusals.Numbers as numbers
-use Rattle.map.specs.Refusals.{answerNumber, numbersOf, openAnswer, opens}
+use Rattle.map.specs.declared.refusals.Refusal.the-variants.{Unsound}
+use Rattle.map.specs.Refusals.{refusalNumber, answerNumber, numbersOf, openAnswer, opens}
+use Rattle.burst.specs.Burst.{busBytes}
 use Rattle.calls.specs.declared.Request.{Request}
 use Rattle.host.specs.declared.Header.{Header}
-use Rattle.host.specs.Record.{recordOf}
+use Rattle.host.specs.declared.Record.{Record}
+use Rattle.host.specs.Record.{recordOf, soundOf}
+use Rattle.update.specs.Update.{writesOf}
 use Rattle.chip.specs.declared.Chip as chips
 use Rattle.chip.specs.Chip.{chipOf, feedOf}
 use Rattle.faults.specs.Faults.{answerNumbers, faultsAnswer, faultsResult}
@@ -193,6 +197,16 @@ compareFrom m registers ledger a (suc n) =
 unfoldable pub compared : Session → Reply
 compared s = cond (s .valid) (compareFrom (s .ledger .member) (s .world .chip .registers) (s .ledger .bytes) 0 908) Bad
 
+-- ---- `pending`
+
+-- "n and t of the list that Update would write now", or the number of its refusal
+unfoldable pub pendingNumbers : Record → List ℕ
+pendingNumbers r = cond (soundOf r) (length (writesOf r) ∷ busBytes (writesOf r) ∷ []) (refusalNumber Unsound ∷ [])
+
+-- "`n t` (`0 0` when there is none), or `14`"; nothing is sent
+unfoldable pub pendingEffect : Session → Effect
+pendingEffect s = alone (Numbers (numbersOf (pendingNumbers (s .world .host)))) s
+
 -- ---- A line
 
 -- the table's middle column, a line of it each
@@ -207,3 +221,4 @@ effectOf s (commands.Show p) l b = shownBytes s (partBytes (s .world) p)
 effectOf s (commands.Poke p a v) l b = behindBack s (poked (s .world) p a v)
 effectOf s (commands.Header e v) l b = behindBack s (withEntry (s .world) e v)
 effectOf s commands.Check l b = alone (compared s) s
+effectOf s commands.Pending l b = pendingEffect s

@@ -19,7 +19,7 @@ use script::Lent;
 
 // The bytes of a word of the line, at the front of a buffer. It answers how many.
 pub fn decode(line: &[u8], word: usize, buffer: &mut [u8]) -> usize
-    requires { ⌜ (length (now line) ≤ 8192) × (length (now buffer) ≡ 4096) ⌝ }
+    requires { ⌜ (length (now line) ≤ 8192) × (4096 ≤ length (now buffer)) ⌝ }
     ensures { λ r. ⌜ (r ≤ 4096) × (take r (now (buffer .exit)) ≡ bytesOf (wordAt (now (line .entry)) word)) ⌝ }
 {
     script::decode(script::word(line, word), buffer)
@@ -27,8 +27,8 @@ pub fn decode(line: &[u8], word: usize, buffer: &mut [u8]) -> usize
 
 // What is lent to a call, at the front of the buffer. It answers how many bytes.
 fn lend(line: &[u8], lent: Lent, buffer: &mut [u8]) -> usize
-    requires { ⌜ LentFits (now line) lent × (length (now buffer) ≡ 4096) ⌝ }
-    ensures { λ r. ⌜ (r ≤ 4096) × (take r (now (buffer .exit)) ≡ lentOf lent (now (line .entry)) (now (buffer .entry))) ⌝ }
+    requires { ⌜ LentFits (now line) lent × (length (now buffer) ≡ 8192) ⌝ }
+    ensures { λ r. ⌜ (r ≤ 8192) × (take r (now (buffer .exit)) ≡ lentOf lent (now (line .entry)) (now (buffer .entry))) ⌝ }
 {
     match lent {
         Lent::Nothing => 0,
@@ -63,7 +63,7 @@ pub(crate) fn call(
     line: &[u8],
     buffer: &mut [u8],
 ) -> Outcome
-    requires { ⌜ LentFits (now line) lent × (length (now buffer) ≡ 4096) ⌝ }
+    requires { ⌜ LentFits (now line) lent × (length (now buffer) ≡ 8192) ⌝ }
     ensures { λ r. ⌜ Does r (now (buffer .exit)) (callEffect session request lent (lentOf lent (now (line .entry)) (now (buffer .entry)))) ⌝ }
 {
     let n = lend(line, lent, buffer);
@@ -71,7 +71,7 @@ pub(crate) fn call(
 }
 
 pub(crate) fn clear(session: Session, room: usize, buffer: &mut [u8]) -> Outcome
-    requires { ⌜ (room ≤ 4096) × (length (now buffer) ≡ 4096) ⌝ }
+    requires { ⌜ (room ≤ 8192) × (length (now buffer) ≡ 8192) ⌝ }
     ensures { λ r. ⌜ Does r (now (buffer .exit)) (stepEffect session (Lent.Room room) (clearStep (session .world) (take room (now (buffer .entry))))) ⌝ }
 {
     let after = history::clear(session.world, &mut buffer[..room]);
@@ -79,7 +79,7 @@ pub(crate) fn clear(session: Session, room: usize, buffer: &mut [u8]) -> Outcome
 }
 
 pub(crate) fn feed(mut session: Session, line: &[u8], word: usize, buffer: &mut [u8]) -> Outcome
-    requires { ⌜ (length (now line) ≤ 8192) × (length (now buffer) ≡ 4096) ⌝ }
+    requires { ⌜ (length (now line) ≤ 8192) × (length (now buffer) ≡ 8192) ⌝ }
     ensures { λ r. ⌜ Does r (now (buffer .exit)) (feedEffect session (bytesOf (wordAt (now (line .entry)) word))) ⌝ }
 {
     let n = decode(line, word, buffer);
@@ -100,7 +100,7 @@ pub(crate) fn faults(
     room: usize,
     buffer: &mut [u8],
 ) -> Outcome
-    requires { ⌜ (length (now line) ≤ 8192) × (room ≤ 4096) × (length (now buffer) ≡ 4096) ⌝ }
+    requires { ⌜ (length (now line) ≤ 8192) × (room ≤ 8192) × (length (now buffer) ≡ 8192) ⌝ }
     ensures { λ r. ⌜ Does r (now (buffer .exit)) (faultsEffect session (bytesOf (wordAt (now (line .entry)) word)) (take room (now (buffer .entry)))) ⌝ }
 {
     let mut given = io::buffer();

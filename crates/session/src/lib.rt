@@ -9,6 +9,7 @@ mod checking;
 mod lines;
 mod opening;
 mod outcomes;
+mod pending;
 mod showing;
 
 ghost use mathlib.Core.Path.{_≡_};
@@ -20,7 +21,7 @@ pub use lines::run;
 pub use outcomes::Outcome;
 
 // The longest buffer that is lent. It holds the byte string of any line too.
-pub const ROOM: usize = 4096;
+pub const ROOM: usize = 8192;
 
 // The record and the chip that the script plays on, and the ledger of the accepted settings. The ledger says nothing once a
 // byte was put behind the calls' back.

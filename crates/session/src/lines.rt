@@ -11,13 +11,14 @@ use crate::checking;
 use crate::opening;
 use crate::outcomes::Outcome;
 use crate::outcomes::alone;
+use crate::pending;
 use crate::showing;
 use replies::Reply;
 use script::Command;
 
 // The command is the line's.
 pub fn run(session: Session, command: Command, line: &[u8], buffer: &mut [u8]) -> Outcome
-    requires { ⌜ (Run command ≡ lineOf (now line)) × (length (now buffer) ≡ 4096) ⌝ }
+    requires { ⌜ (Run command ≡ lineOf (now line)) × (length (now buffer) ≡ 8192) ⌝ }
     ensures { λ r. ⌜ Does r (now (buffer .exit)) (effectOf session command (now (line .entry)) (now (buffer .entry))) ⌝ }
 {
     match command {
@@ -31,5 +32,6 @@ pub fn run(session: Session, command: Command, line: &[u8], buffer: &mut [u8]) -
         Command::Poke(part, address, value) => behind::poke(session, part, address, value),
         Command::Header(entry, value) => behind::header(session, entry, value),
         Command::Check => checking::check(session),
+        Command::Pending => pending::pending(session),
     }
 }

@@ -19,7 +19,7 @@ fn bytes_of(world: World, part: Part) -> [u8; 908]
 }
 
 pub(crate) fn show(session: Session, part: Part, buffer: &mut [u8]) -> Outcome
-    requires { ⌜ length (now buffer) ≡ 4096 ⌝ }
+    requires { ⌜ length (now buffer) ≡ 8192 ⌝ }
     ensures { λ r. ⌜ Does r (now (buffer .exit)) (shownBytes session (partBytes (session .world) part)) ⌝ }
 {
     let bytes = bytes_of(session.world, part);

@@ -16,7 +16,7 @@ enum-known-lent c = search needs
 
 decode-requires : tie.Need-decode-requires
 unfolding LentFits
-decode-requires c κs = (rw (c .before .before .lent .given .1) at (c .before .before .before .before .before .before .pre .0), c .before .before .before .before .before .before .pre .1)
+decode-requires c κs = (rw (c .before .before .lent .given .1) at (c .before .before .before .before .before .before .pre .0), omega (arith, c .before .before .before .before .before .before .pre .1))
 
 enum-known-lent-2 : tie.Need-enum-known-lent-2
 enum-known-lent-2 c = search needs
@@ -30,7 +30,7 @@ same-length c = search needs
 
 returns-2 : tie.Need-returns-2
 unfolding lentOf
-returns-2 c = rw (c .before .before .before .before .before .lent .given .1) (c .before .before .decode .ensures)
+returns-2 c = rw (c .before .before .before .before .before .lent .given .1) (omega (arith, c .before .before .decode .ensures .0), c .before .before .decode .ensures .1)
 
 returns-3 : tie.Need-returns-3
 unfolding LentFits lentOf

@@ -75,6 +75,12 @@ enum-told-2 c = search needs
 check-requires : tie.Need-check-requires
 check-requires c κs = search needs
 
+enum-told-3 : tie.Need-enum-told-3
+enum-told-3 c = search needs
+
+pending-requires : tie.Need-pending-requires
+pending-requires c κs = search needs
+
 returns : tie.Need-returns
 unfolding effectOf
 returns c = ran _ _ _ _ _ _ _ (c .before .enum-told .given .1) (c .alone .ensures _)
@@ -130,6 +136,10 @@ returns-10 : tie.Need-returns-10
 unfolding effectOf
 returns-10 c = ran _ _ _ _ _ _ _ (c .before .enum-told2 .given .1) (c .check .ensures _)
 
+returns-11 : tie.Need-returns-11
+unfolding effectOf
+returns-11 c = ran _ _ _ _ _ _ _ (c .before .enum-told3 .given .1) (c .pending .ensures _)
+
 pub run-spec : {M : Type 1} → statement M
 run-spec =
     tie.close
@@ -154,6 +164,8 @@ run-spec =
     header-requires
     enum-told-2
     check-requires
+    enum-told-3
+    pending-requires
     returns
     returns-2
     same-length
@@ -168,4 +180,5 @@ run-spec =
     returns-7
     returns-8
     returns-9
-    returns-10)
+    returns-10
+    returns-11)
