@@ -1,0 +1,2 @@
+pub mod Booth
+pub mod BoothLaws
