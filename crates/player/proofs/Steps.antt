@@ -20,7 +20,7 @@ use Rattle.text.specs.TextLaws.{puts-then, puts-as}
 use Rattle.script.specs.declared.command.Command.{Command}
 use Rattle.script.specs.declared.command.Aside as asides
 use Rattle.script.specs.declared.command.Line.{Line}
-use Rattle.script.specs.declared.command.Line.the-variants.{Run, Aside}
+use Rattle.script.specs.declared.command.Line.the-variants.{Run, Aside, Panel, Round}
 use Rattle.script.specs.Lines.{withoutCr, isSilent, lineOf}
 use Rattle.script.specs.LineLaws.{AsideFits, Fits, fits}
 use Rattle.replies.specs.Replies.{replyLine, echoLine}
@@ -29,9 +29,11 @@ use Rattle.pictures.specs.Pictures.{faultsText, differencesText}
 use Rattle.session.specs.declared.outcomes.Outcome.{Outcome}
 use Rattle.session.specs.declared.Session.{Session}
 use Rattle.session.specs.Run.{Effect, Does, effectOf}
-use Rattle.session.specs.LengthLaws.{longestReply, replies}
+use Rattle.session.specs.LengthLaws.{replies}
+use Rattle.booth.specs.declared.Booth.{Booth}
+use Rattle.booth.specs.Booth.{currentOf, withCurrent}
 use Rattle.player.specs.declared.Player.{Player}
-use Rattle.player.specs.Play.{withSession, countedFrom, counted, freshBuffer, effect, commandLine, sizeBy, keptSize, keeping, afterCommand, readingsAnswer, faultMapBy, faultMapText, differencesOf, lastListText, asideLine, afterAside, echoText, lineTextBy, lineText, afterBy, afterLine, playerAfter, echoedText, printed, longestLine}
+use Rattle.player.specs.Play.{withBooth, sessionOf, withSession, countedFrom, counted, freshBuffer, effect, commandLine, sizeBy, keptSize, keeping, afterEffect, afterCommand, readingsAnswer, faultMapBy, faultMapText, differencesOf, lastListText, zeroLine, asideLine, afterAside, afterPanel, echoText, lineTextBy, lineText, afterBy, afterLine, playerAfter, echoedText, printed, longestText, longestLine}
 use Rattle.player.specs.PlayLaws.{aside-most, printed-most}
 
 -- ---- counting
@@ -45,7 +47,7 @@ unfolding countedFrom
 counted-no-more n h = rw (le-ltb n 4294967295 h) refl
 
 pub counted-is : (p : Player) (n : ℕ) → n ≡ countedFrom (p .lines) →
-    record { session = p .session; echo = p .echo; lines = n; list = p .list; listed = p .listed; bus = p .bus } ≡ counted p
+    record { booth = p .booth; echo = p .echo; lines = n; list = p .list; listed = p .listed; bus = p .bus } ≡ counted p
 unfolding counted
 counted-is p n e = rw e refl
 
@@ -93,32 +95,34 @@ module _ (n : numbers.Numbers) (h : n .number ≡ 0) where
   unfolding sizeBy
   size-is k l = rw (eq-eqb (n .number) 0 h, lt-ltb (n .first) 65536 k, lt-ltb (n .second) 65536 l) refl
 
-module _ (p : Player) (k : ℕ) (shown : List ℕ) where
-  pub keep-none : k ≡ 0 → p ≡ keeping p k shown
+module _ (p : Player) (k : ℕ) (shown : List ℕ) (bus : ℕ) where
+  pub keep-none : k ≡ 0 → p ≡ keeping p k shown bus
   unfolding keeping
   keep-none e = rw e refl
 
-  pub keep-short : length shown < k → p ≡ keeping p k shown
+  pub keep-short : length shown < k → p ≡ keeping p k shown bus
   unfolding keeping
   keep-short h = rw (lt-ltb 0 k (omega arith), lt-leb k (length shown) h) refl
 
   pub keep-put : (new : List ℕ) (n : ℕ) → (k ≡ 0 → ⊥) → k ≤ length shown → Puts (p .list) 0 (take k shown) new n →
-      record { session = p .session; echo = p .echo; lines = p .lines; list = new; listed = n; bus = p .session .world .host .header .bus } ≡ keeping p k shown
+      record { booth = p .booth; echo = p .echo; lines = p .lines; list = new; listed = n; bus = bus } ≡ keeping p k shown bus
   unfolding keeping
   keep-put new n z h put = rw (lt-ltb 0 k (omega arith), le-leb k (length shown) h, put .buffer, put .place) refl
 
 -- ---- a command: e is the buffer after it
 
-pub command-played : (p : Player) (c : Command) (l e : List ℕ) (r : Outcome) (old new : List ℕ) (at n k : ℕ) (q : Player) → Run c ≡ lineOf l →
-    length e ≡ 4096 → Does r e (effectOf (p .session) c l freshBuffer) → Puts old at (replyLine (r .reply) (take (r .shown) e)) new n →
-    k ≡ keptSize c (r .reply) → q ≡ keeping (withSession p (r .session)) k (take (r .shown) e) →
-    (q ≡ afterCommand p c l) × (Puts old at (commandLine p c l) new n × (length (commandLine p c l) ≤ longestReply))
-unfolding afterCommand commandLine effect
-command-played p c l e r old new at n k q is h d put ek eq =
-    let said = replies (p .session) c l freshBuffer is r e h d in (
-      eq ∙ ap (λ (j : ℕ). keeping (withSession p (r .session)) j (take (r .shown) e)) ek
-          ∙ ap (λ (x : Effect). keeping (withSession p (x .session)) (keptSize c (x .reply)) (x .shown)) (said .effect-is),
-      (puts-as old at _ _ new n (said .line) put, said .most),
+pub command-played : (p : Player) (s : Session) (c : Command) (l e : List ℕ) (r : Outcome) (b : Booth) (old new : List ℕ) (at n k : ℕ) (q : Player) →
+    Run c ≡ lineOf l → s ≡ currentOf (p .booth) → length e ≡ 8192 → Does r e (effectOf s c l freshBuffer) → b ≡ withCurrent (p .booth) (r .session) →
+    Puts old at (replyLine (r .reply) (take (r .shown) e)) new n → k ≡ keptSize c (r .reply) →
+    q ≡ keeping (withBooth p b) k (take (r .shown) e) (r .session .world .host .header .bus) →
+    (q ≡ afterCommand p c l) × (Puts old at (commandLine p c l) new n × (length (commandLine p c l) ≤ longestText))
+unfolding afterCommand afterEffect commandLine effect sessionOf withSession
+command-played p s c l e r b old new at n k q is es h d eb put ek eq =
+    let said = replies s c l freshBuffer is r e h d in
+    rw (← es)
+    (
+      eq ∙ rw (eb, ek) refl ∙ ap (afterEffect p c) (said .effect-is),
+      (puts-as old at _ _ new n (said .line) put, omega (arith, said .most)),
     )
 
 -- ---- asides
@@ -136,17 +140,17 @@ module _ (bus : ℕ) (list : List ℕ) (k : ℕ) where
   unfolding lastListText
   list-none e = rw e refl
 
-  pub list-long : 1174 < k → 0x3F ∷ [] ≡ lastListText bus list k
+  pub list-long : 4684 < k → 0x3F ∷ [] ≡ lastListText bus list k
   unfolding lastListText
-  list-long h = rw (lt-ltb 0 k (omega arith), lt-leb k 1174 h) refl
+  list-long h = rw (lt-ltb 0 k (omega arith), lt-leb k 4684 h) refl
 
-  pub list-past : (k ≡ 0 → ⊥) → k ≤ 1174 → length list < k → 0x3F ∷ [] ≡ lastListText bus list k
+  pub list-past : (k ≡ 0 → ⊥) → k ≤ 4684 → length list < k → 0x3F ∷ [] ≡ lastListText bus list k
   unfolding lastListText
-  list-past z h l = rw (lt-ltb 0 k (omega arith), le-leb k 1174 h, lt-leb k (length list) l) refl
+  list-past z h l = rw (lt-ltb 0 k (omega arith), le-leb k 4684 h, lt-leb k (length list) l) refl
 
-  pub list-shown : (k ≡ 0 → ⊥) → k ≤ 1174 → k ≤ length list → listText bus (take k list) ≡ lastListText bus list k
+  pub list-shown : (k ≡ 0 → ⊥) → k ≤ 4684 → k ≤ length list → listText bus (take k list) ≡ lastListText bus list k
   unfolding lastListText
-  list-shown z h l = rw (lt-ltb 0 k (omega arith), le-leb k 1174 h, le-leb k (length list) l) refl
+  list-shown z h l = rw (lt-ltb 0 k (omega arith), le-leb k 4684 h, le-leb k (length list) l) refl
 
 -- Faults with room for 198 readings
 module _ (r : Record) (bytes given readings : List ℕ) (answer : faults.Answer) (eg : given ≡ bytes) (ea : answer ≡ faultsAnswer r given (replicate 198 0))
@@ -171,16 +175,24 @@ aside-fits l x a e is = fits l (Aside a) (sym is ∙ e)
 module _ (p : Player) (l : List ℕ) (x : Line) (e : x ≡ lineOf l) (q : Player) (old new : List ℕ) (at n : ℕ) where
   -- what `play_line` promises
   abbrev pub PlaysLine : Type 0
-  PlaysLine = (q ≡ afterLine p l) × (Puts old at (lineText p l) new n × (length (lineText p l) ≤ longestReply))
+  PlaysLine = (q ≡ afterLine p l) × (Puts old at (lineText p l) new n × (length (lineText p l) ≤ longestText))
 
   pub run-played : (c : Command) → x ≡ Run c →
-      (q ≡ afterCommand p c l) × (Puts old at (commandLine p c l) new n × (length (commandLine p c l) ≤ longestReply)) → PlaysLine
+      (q ≡ afterCommand p c l) × (Puts old at (commandLine p c l) new n × (length (commandLine p c l) ≤ longestText)) → PlaysLine
   unfolding afterLine lineText afterBy lineTextBy
   run-played c is h = rw (sym e ∙ is) h
 
   pub aside-played : (a : asides.Aside) → x ≡ Aside a → q ≡ afterAside p a → Puts old at (asideLine p a l) new n → PlaysLine
   unfolding afterLine lineText afterBy lineTextBy
   aside-played a is eq put = rw (sym e ∙ is) (eq, (put, aside-most p a l))
+
+  pub panel-played : (k : ℕ) → x ≡ Panel k → q ≡ afterPanel p k → Puts old at zeroLine new n → PlaysLine
+  unfolding afterLine lineText afterBy lineTextBy
+  panel-played k is eq put = rw (sym e ∙ is) (eq, (put, omega arith))
+
+  pub round-played : (m b k : ℕ) → x ≡ Round m b k → q ≡ p → Puts old at (0x3F ∷ 0x0A ∷ []) new n → PlaysLine
+  unfolding afterLine lineText afterBy lineTextBy
+  round-played m b k is eq put = rw (sym e ∙ is) (eq, (put, omega arith))
 
 pub played : (p q r : Player) (l w old mid new : List ℕ) (at next n : ℕ) → w ≡ withoutCr l → q ≡ counted p →
     Puts old at (echoText (q .echo) (q .lines) w) mid next → PlaysLine q w (lineOf w) refl r mid new next n →

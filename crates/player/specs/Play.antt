@@ -21,7 +21,7 @@ use Rattle.script.specs.declared.command.Part.the-variants.{Settings, Image, Ch
 use Rattle.script.specs.declared.command.Aside as asides
 use Rattle.script.specs.declared.command.Aside.the-variants.{Silent, Echo, Lamps, FaultMap, Diff, List as LastList}
 use Rattle.script.specs.declared.command.Line.{Line}
-use Rattle.script.specs.declared.command.Line.the-variants.{Run, Aside}
+use Rattle.script.specs.declared.command.Line.the-variants.{Run, Aside, Panel, Round}
 use Rattle.script.specs.Words.{wordAt}
 use Rattle.script.specs.Bytes.{bytesOf}
 use Rattle.script.specs.Lines.{withoutCr, isSilent, lineOf}
@@ -31,18 +31,28 @@ use Rattle.replies.specs.Replies.{replyLine, echoLine}
 use Rattle.listing.specs.Show.{listText}
 use Rattle.pictures.specs.Pictures.{lampsText, faultsText, differencesText}
 use Rattle.session.specs.declared.Session.{Session}
-use Rattle.session.specs.Run.{Effect, openedSession, effectOf}
+use Rattle.session.specs.Run.{Effect, effectOf}
+use Rattle.booth.specs.declared.Booth.{Booth}
+use Rattle.booth.specs.Booth.{freshBooth, currentOf, withCurrent, selected}
 use Rattle.player.specs.declared.Player.{Player}
 
 -- ---- The player
 
--- "Before the first accepted `open` the record and the chip are those of `open 0 0 0`."; no line yet, no echo, and no list
+-- four panels that are "all at first those of `open 0 0 0`"; no line yet, no echo, and no list
 unfoldable pub fresh : Player
-fresh = record { session = openedSession 0 0 0; echo = false; lines = 0; list = replicate 1174 0; listed = 0; bus = 0 }
+fresh = record { booth = freshBooth; echo = false; lines = 0; list = replicate 4684 0; listed = 0; bus = 0 }
 
--- "It runs the real calls on one host record and one chip model": a call changes these, and nothing else of the player
+-- other panels, and nothing else of the player changes
+unfoldable pub withBooth : Player → Booth → Player
+withBooth p b = record { booth = b; echo = p .echo; lines = p .lines; list = p .list; listed = p .listed; bus = p .bus }
+
+-- the session of "the one that all other lines are about"
+unfoldable pub sessionOf : Player → Session
+sessionOf p = currentOf (p .booth)
+
+-- a call changes that one, and nothing else of the player
 unfoldable pub withSession : Player → Session → Player
-withSession p s = record { session = s; echo = p .echo; lines = p .lines; list = p .list; listed = p .listed; bus = p .bus }
+withSession p s = withBooth p (withCurrent (p .booth) s)
 
 -- "the line's number", counted from 1, up to 4,294,967,295
 unfoldable pub countedFrom : ℕ → ℕ
@@ -50,17 +60,17 @@ countedFrom n = cond (ltb n 4294967295) (n + 1) 4294967295
 
 -- "Every line of the script counts"
 unfoldable pub counted : Player → Player
-counted p = record { session = p .session; echo = p .echo; lines = countedFrom (p .lines); list = p .list; listed = p .listed; bus = p .bus }
+counted p = record { booth = p .booth; echo = p .echo; lines = countedFrom (p .lines); list = p .list; listed = p .listed; bus = p .bus }
 
 -- ---- A command
 
--- "A buffer of L bytes (L at most 4,096, else `?`) is lent filled with A5h": it is the first L bytes of this
+-- "A buffer of L bytes (L at most 8,192, else `?`) is lent filled with A5h": it is the first L bytes of this
 unfoldable pub freshBuffer : List ℕ
-freshBuffer = replicate 4096 0xA5
+freshBuffer = replicate 8192 0xA5
 
 -- what it does to the session
 unfoldable pub effect : Player → Command → List ℕ → Effect
-effect p c l = effectOf (p .session) c l freshBuffer
+effect p c l = effectOf (sessionOf p) c l freshBuffer
 
 -- the line that it prints: its reply, "and after the call ALL its L bytes are printed"
 unfoldable pub commandLine : Player → Command → List ℕ → List ℕ
@@ -84,6 +94,7 @@ writesList (commands.Show part) = false
 writesList (commands.Poke part a v) = false
 writesList (commands.Header e v) = false
 writesList commands.Check = false
+writesList commands.Pending = false
 
 -- the list that an answer of 0, n and t tells of has 4 + 2n + t bytes; n and t have two bytes each
 unfoldable pub sizeBy : numbers.Numbers → ℕ
@@ -102,24 +113,26 @@ listedSize (Differs a) = 0
 unfoldable pub keptSize : Command → Reply → ℕ
 keptSize c r = cond (writesList c) (listedSize r) 0
 
--- "the last list that a call wrote": the first k bytes of what it shows, and "the record's own bus"
-unfoldable pub keeping : Player → ℕ → List ℕ → Player
-keeping p k shown =
+-- "the last list that a call wrote": the first k bytes of what it shows, and the bus that its heads are for
+unfoldable pub keeping : Player → ℕ → List ℕ → ℕ → Player
+keeping p k shown bus =
     cond (ltb 0 k && leb k (length shown))
     (record {
-      session = p .session;
+      booth = p .booth;
       echo = p .echo;
       lines = p .lines;
       list = placed (p .list) 0 (take k shown);
       listed = placeAfter (length (p .list)) 0 (take k shown);
-      bus = p .session .world .host .header .bus;
+      bus = bus;
     })
     p
 
--- the player after a command: the session that it leaves, and the list that it wrote
+-- the player after a command that has this effect: the session that it leaves, and the list that it wrote, with "the record's own bus"
+unfoldable pub afterEffect : Player → Command → Effect → Player
+afterEffect p c e = keeping (withSession p (e .session)) (keptSize c (e .reply)) (e .shown) (e .session .world .host .header .bus)
+
 unfoldable pub afterCommand : Player → Command → List ℕ → Player
-afterCommand p c l =
-    keeping (withSession p (effect p c l .session)) (keptSize c (effect p c l .reply)) (effect p c l .shown)
+afterCommand p c l = afterEffect p c (effect p c l)
 
 -- ---- Asides
 
@@ -148,20 +161,24 @@ differencesOf s = cond (s .valid) (differencesText (s .ledger .member) (s .world
 
 -- "`list` .. shows the last list that a call wrote in showlist's form, on one line with ` / ` between transactions", and `?` before the first
 unfoldable pub lastListText : ℕ → List ℕ → ℕ → List ℕ
-lastListText bus list k = cond (ltb 0 k && (leb k 1174 && leb k (length list))) (listText bus (take k list)) (0x3F ∷ [])
+lastListText bus list k = cond (ltb 0 k && (leb k 4684 && leb k (length list))) (listText bus (take k list)) (0x3F ∷ [])
+
+-- a line that prints `0`
+abbrev pub zeroLine : List ℕ
+zeroLine = 0x30 ∷ 0x0A ∷ []
 
 -- what an aside prints: "do nothing and print nothing"; `0` for `echo`
 unfoldable pub asideLine : Player → asides.Aside → List ℕ → List ℕ
 asideLine p Silent l = []
-asideLine p (Echo on) l = 0x30 ∷ 0x0A ∷ []
-asideLine p (Lamps part) l = lampsOf (p .session .world) part ++ (0x0A ∷ [])
-asideLine p (FaultMap k) l = faultMapText (p .session .world .host) (bytesOf (wordAt l k)) ++ (0x0A ∷ [])
-asideLine p Diff l = differencesOf (p .session) ++ (0x0A ∷ [])
+asideLine p (Echo on) l = zeroLine
+asideLine p (Lamps part) l = lampsOf (sessionOf p .world) part ++ (0x0A ∷ [])
+asideLine p (FaultMap k) l = faultMapText (sessionOf p .world .host) (bytesOf (wordAt l k)) ++ (0x0A ∷ [])
+asideLine p Diff l = differencesOf (sessionOf p) ++ (0x0A ∷ [])
 asideLine p LastList l = lastListText (p .bus) (p .list) (p .listed) ++ (0x0A ∷ [])
 
 -- "`echo on` .., `echo off` ends that"
 unfoldable pub withEcho : Player → Bool → Player
-withEcho p on = record { session = p .session; echo = on; lines = p .lines; list = p .list; listed = p .listed; bus = p .bus }
+withEcho p on = record { booth = p .booth; echo = on; lines = p .lines; list = p .list; listed = p .listed; bus = p .bus }
 
 -- "lines for people, which change neither the record nor the chip": `echo` alone changes the player
 unfoldable pub afterAside : Player → asides.Aside → Player
@@ -172,25 +189,35 @@ afterAside p (FaultMap k) = p
 afterAside p Diff = p
 afterAside p LastList = p
 
+-- ---- Lines about the four panels
+
+-- "`panel K` .. makes K the one that all other lines are about"; "it prints `0`"
+unfoldable pub afterPanel : Player → ℕ → Player
+afterPanel p k = withBooth p (selected (p .booth) k)
+
 -- ---- A line
 
 -- "`echo on` puts the line's number and the call before its answer": the first 8,192 bytes of the line; nothing of a comment or an empty line
 unfoldable pub echoText : Bool → ℕ → List ℕ → List ℕ
 echoText on n l = cond (not (isSilent l) && on) (echoLine n (take 8192 l)) []
 
--- a command prints its reply, an aside what it shows
+-- a command prints its reply, an aside what it shows, `panel` prints `0`
 unfoldable pub lineTextBy : Player → Line → List ℕ → List ℕ
 lineTextBy p (Run c) l = commandLine p c l
 lineTextBy p (Aside x) l = asideLine p x l
+lineTextBy p (Panel k) l = zeroLine
+lineTextBy p (Round marks limit n) l = 0x3F ∷ 0x0A ∷ []
 
 -- what a line prints that was counted
 unfoldable pub lineText : Player → List ℕ → List ℕ
 lineText p l = lineTextBy p (lineOf l) l
 
--- what a command and an aside leave
+-- what each leaves
 unfoldable pub afterBy : Player → Line → List ℕ → Player
 afterBy p (Run c) l = afterCommand p c l
 afterBy p (Aside x) l = afterAside p x
+afterBy p (Panel k) l = afterPanel p k
+afterBy p (Round marks limit n) l = p
 
 -- the player after a line that was counted
 unfoldable pub afterLine : Player → List ℕ → Player
@@ -208,7 +235,11 @@ echoedText p l = echoText (p .echo) (p .lines) l ++ lineText p l
 unfoldable pub printed : Player → List ℕ → List ℕ
 printed p l = echoedText (counted p) (withoutCr l)
 
--- no line prints more bytes, its LFs counted (PlayLaws): an echo of ten digits, a space, 8,192 bytes and LF; then `0 n t BUFFER` with three
--- digits for n and for t, and 4,096 bytes
+-- no line prints more bytes of its own, its LFs counted (PlayLaws): `0 n t BUFFER` of a round with four digits for n and for t, and 8,192
+-- bytes
+abbrev pub longestText : ℕ
+longestText = 16397
+
+-- nor with an echo before it, of ten digits, a space, 8,192 bytes and LF
 abbrev pub longestLine : ℕ
-longestLine = 16407
+longestLine = 24601

@@ -1,4 +1,5 @@
--- Laws of Play.antt: `list` shows the last list whole; what an aside prints has no more bytes than a reply, and no line prints more than 16,407.
+-- Laws of Play.antt: `list` shows the last list whole; what an aside prints has no more bytes than a
+-- round's line, and no line prints more than 24,601.
 -- Assumes nothing.
 use mathlib.Core.Path.{_≡_, refl, _∙_}
 use mathlib.Core.Bool.{Bool, true, false, cond, not, _&&_}
@@ -28,9 +29,8 @@ use Rattle.listing.specs.ShowLaws.{list-short}
 use Rattle.pictures.specs.Pictures.{lampsText, faultsText, differencesText}
 use Rattle.pictures.specs.PictureLaws.{lamps-most, faults-most, differences-most}
 use Rattle.session.specs.declared.Session.{Session}
-use Rattle.session.specs.LengthLaws.{longestReply}
 use Rattle.player.specs.declared.Player.{Player}
-use Rattle.player.specs.Play.{countedFrom, counted, lampsOf, faultMapBy, faultMapText, differencesOf, lastListText, keeping, asideLine, echoText, lineText, echoedText, printed, longestLine}
+use Rattle.player.specs.Play.{countedFrom, counted, sessionOf, lampsOf, faultMapBy, faultMapText, differencesOf, lastListText, keeping, asideLine, echoText, lineText, echoedText, printed, longestText, longestLine}
 
 -- ---- asides
 
@@ -56,22 +56,22 @@ differences-of s = go (s .valid)
     go true = differences-most _ _ _
     go false = omega arith
 
--- a list of at most 1,174 bytes
-last-list : (bus : ℕ) (list : List ℕ) (k : ℕ) → length (lastListText bus list k) ≤ 3533
+-- a list of at most 4,684 bytes
+last-list : (bus : ℕ) (list : List ℕ) (k : ℕ) → length (lastListText bus list k) ≤ 14063
 unfolding lastListText
-last-list bus list k = go (ltb 0 k) (leb k 1174) (leb k (length list)) refl
+last-list bus list k = go (ltb 0 k) (leb k 4684) (leb k (length list)) refl
   where
-    go : (a b c : Bool) → leb k 1174 ≡ b → length (cond (a && (b && c)) (listText bus (take k list)) (0x3F ∷ [])) ≤ 3533
-    go true true true e = omega (arith, list-short bus (take k list), length-take k list, leb-true k 1174 e)
+    go : (a b c : Bool) → leb k 4684 ≡ b → length (cond (a && (b && c)) (listText bus (take k list)) (0x3F ∷ [])) ≤ 14063
+    go true true true e = omega (arith, list-short bus (take k list), length-take k list, leb-true k 4684 e)
     go true true false e = omega arith
     go true false c e = omega arith
     go false b c e = omega arith
 
--- "`list` shows the last list that a call wrote": behind a call that left k bytes of one, all of it, with the heads of the record's bus
-pub list-shows : (p : Player) (k : ℕ) (shown l : List ℕ) → 0 < k → k ≤ 1174 → k ≤ length shown → length (p .list) ≡ 1174 →
-    asideLine (keeping p k shown) LastList l ≡ listText (p .session .world .host .header .bus) (take k shown) ++ (0x0A ∷ [])
+-- "`list` shows the last list that a call wrote": behind a call that left k bytes of one, all of it, with the heads of that bus
+pub list-shows : (p : Player) (k : ℕ) (shown l : List ℕ) (bus : ℕ) → 0 < k → k ≤ 4684 → k ≤ length shown → length (p .list) ≡ 4684 →
+    asideLine (keeping p k shown bus) LastList l ≡ listText bus (take k shown) ++ (0x0A ∷ [])
 unfolding asideLine lastListText keeping
-list-shows p k shown l some fits there size =
+list-shows p k shown l bus some fits there size =
     let xs : List ℕ = take k shown in
     let whole : length xs ≡ k = length-take-le k shown there in
     let room : 0 + length xs ≤ length (p .list) = omega (arith, whole) in
@@ -79,18 +79,18 @@ list-shows p k shown l some fits there size =
     let place : placeAfter (length (p .list)) 0 xs ≡ k = after-room (length (p .list)) 0 xs room ∙ none in
     let inside : k ≤ length (placed (p .list) 0 xs) = omega (arith, placed-length (p .list) 0 xs) in
     let bytes : take k (placed (p .list) 0 xs) ≡ xs = rw none at (placed-room (p .list) 0 xs room) in
-    rw (lt-ltb 0 k some, le-leb k (length shown) there, place, lt-ltb 0 k some, le-leb k 1174 fits, le-leb k (length (placed (p .list) 0 xs)) inside, bytes) refl
+    rw (lt-ltb 0 k some, le-leb k (length shown) there, place, lt-ltb 0 k some, le-leb k 4684 fits, le-leb k (length (placed (p .list) 0 xs)) inside, bytes) refl
 
-pub aside-most : (p : Player) (x : asides.Aside) (l : List ℕ) → length (asideLine p x l) ≤ longestReply
+pub aside-most : (p : Player) (x : asides.Aside) (l : List ℕ) → length (asideLine p x l) ≤ longestText
 unfolding asideLine faultMapText
 aside-most p Silent l = omega arith
 aside-most p (Echo on) l = omega arith
-aside-most p (Lamps part) l = omega (arith, length-append (lampsOf (p .session .world) part) (0x0A ∷ []), lamps-of (p .session .world) part)
+aside-most p (Lamps part) l = omega (arith, length-append (lampsOf (sessionOf p .world) part) (0x0A ∷ []), lamps-of (sessionOf p .world) part)
 aside-most p (FaultMap k) l =
-    let text : List ℕ = faultMapText (p .session .world .host) (bytesOf (wordAt l k)) in
-    let most : length text ≤ 208 = fault-map (p .session .world .host .header .member) _ _ in
+    let text : List ℕ = faultMapText (sessionOf p .world .host) (bytesOf (wordAt l k)) in
+    let most : length text ≤ 208 = fault-map (sessionOf p .world .host .header .member) _ _ in
     omega (arith, length-append text (0x0A ∷ []), most)
-aside-most p Diff l = omega (arith, length-append (differencesOf (p .session)) (0x0A ∷ []), differences-of (p .session))
+aside-most p Diff l = omega (arith, length-append (differencesOf (sessionOf p)) (0x0A ∷ []), differences-of (sessionOf p))
 aside-most p LastList l = omega (arith, length-append (lastListText (p .bus) (p .list) (p .listed)) (0x0A ∷ []), last-list (p .bus) (p .list) (p .listed))
 
 -- ---- any line
@@ -118,8 +118,8 @@ echo-most on n l h = go (not (isSilent l) && on)
         )
     go false = omega arith
 
--- a line whose own text is no longer than a reply
-pub printed-most : (p : Player) (l : List ℕ) → length (lineText (counted p) (withoutCr l)) ≤ longestReply → length (printed p l) ≤ longestLine
+-- a line whose own text is no longer than a round's
+pub printed-most : (p : Player) (l : List ℕ) → length (lineText (counted p) (withoutCr l)) ≤ longestText → length (printed p l) ≤ longestLine
 unfolding printed echoedText counted
 printed-most p l h =
     omega (

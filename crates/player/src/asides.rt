@@ -118,19 +118,20 @@ pub(crate) fn put(player: Player, aside: Aside, line: &[u8], text: &mut [u8], at
     requires { ⌜ AsideFits (now line) aside ⌝ }
     ensures { λ r. ⌜ Puts (now (text .entry)) at (asideLine player aside (now (line .entry))) (now (text .exit)) r ⌝ }
 {
+    let session = booth::current_session(player.booth);
     match aside {
         Aside::Silent => at,
         Aside::Echo(_) => text::put_text(text, at, b"0\n"),
         Aside::Lamps(part) => {
-            let next = put_lamps(player.session.world, part, text, at);
+            let next = put_lamps(session.world, part, text, at);
             text::put(text, next, b'\n')
         }
         Aside::FaultMap(word) => {
-            let next = put_fault_map(player.session.world.host, line, word, text, at);
+            let next = put_fault_map(session.world.host, line, word, text, at);
             text::put(text, next, b'\n')
         }
         Aside::Diff => {
-            let next = put_differences(player.session, text, at);
+            let next = put_differences(session, text, at);
             text::put(text, next, b'\n')
         }
         Aside::List => {

@@ -1,30 +1,30 @@
 // A script, played line by line: what each line does to the player and prints. docs/REPLAY.md has the lines.
 //
 // `start` is the player before the first line. `play` plays a line and puts what it prints at a place of a text. A line is a command, which
-// the session runs on a buffer of its own and replies to, or an aside: a comment, `echo`, a picture of the lamps or of fault readings, the
-// registers that differ, or the last list. An aside changes no record and no chip.
+// the current panel's session runs on a buffer of its own and replies to, or an aside: a comment, `echo`, a picture of the lamps or of fault
+// readings, the registers that differ, or the last list; or it is about the four panels. An aside changes no record and no chip.
 mod asides;
+mod panels;
 mod running;
 
 ghost use mathlib.Core.Path.{_≡_};
 ghost use Prim.Native.Nat.{_≤_};
 ghost use lib.ListN.{length};
 ghost use Rattle.text.specs.Text.{Puts};
-ghost use Rattle.player.specs.Play.{fresh, countedFrom, counted, echoText, lineText, afterLine, playerAfter, printed, longestLine};
-ghost use Rattle.session.specs.LengthLaws.{longestReply};
+ghost use Rattle.player.specs.Play.{fresh, countedFrom, counted, echoText, lineText, afterLine, playerAfter, printed, longestText, longestLine};
+use booth::Booth;
 use script::Line;
-use session::Session;
 
 // No line prints more bytes, its LFs counted.
-pub const LONGEST_LINE: usize = 16407;
+pub const LONGEST_LINE: usize = 24601;
 
-// The most bytes that a list takes.
-pub(crate) const LIST: usize = 1174;
+// The most bytes that a list takes: that of a round.
+pub(crate) const LIST: usize = 4684;
 
-// The session, whether lines are echoed, the number of the last line, and the last list that a call wrote: its bytes, how many they are, and
+// The four panels, whether lines are echoed, the number of the last line, and the last list that a call wrote: its bytes, how many they are, and
 // the bus of the record that wrote it.
 pub struct Player {
-    pub session: Session,
+    pub booth: Booth,
     pub echo: bool,
     pub lines: usize,
     pub list: [u8; LIST],
@@ -42,9 +42,9 @@ pub struct Played {
 pub fn start() -> Player
     ensures { λ r. ⌜ r ≡ fresh ⌝ }
 {
-    let session = session::start();
+    let booth = booth::start();
     Player {
-        session: session,
+        booth: booth,
         echo: false,
         lines: 0,
         list: [0; LIST],
@@ -75,13 +75,18 @@ fn counting(mut player: Player) -> Player
 fn play_line(player: Player, line: &[u8], text: &mut [u8], at: usize) -> Played
     ensures { λ r. ⌜ r .player ≡ afterLine player (now (line .entry)) ⌝ }
     ensures { λ r. ⌜ Puts (now (text .entry)) at (lineText player (now (line .entry))) (now (text .exit)) (r .at) ⌝ }
-    ensures { λ _. ⌜ length (lineText player (now (line .entry))) ≤ longestReply ⌝ }
+    ensures { λ _. ⌜ length (lineText player (now (line .entry))) ≤ longestText ⌝ }
 {
     match script::read(line) {
         Line::Run(command) => running::run(player, command, line, text, at),
         Line::Aside(aside) => Played {
             player: asides::after(player, aside),
             at: asides::put(player, aside, line, text, at),
+        },
+        Line::Panel(place) => panels::panel(player, place, text, at),
+        Line::Round(_, _, _) => Played {
+            player: player,
+            at: text::put_text(text, at, b"?\n"),
         },
     }
 }

@@ -5,8 +5,7 @@ ghost use lib.ListN.{length};
 ghost use Rattle.text.specs.Text.{Puts};
 ghost use Rattle.script.specs.declared.command.Line.the-variants.{Run};
 ghost use Rattle.script.specs.Lines.{lineOf};
-ghost use Rattle.session.specs.LengthLaws.{longestReply};
-ghost use Rattle.player.specs.Play.{isRoom, writesList, sizeBy, listedSize, keptSize, keeping, commandLine, afterCommand};
+ghost use Rattle.player.specs.Play.{isRoom, writesList, sizeBy, listedSize, keptSize, keeping, commandLine, afterCommand, longestText};
 use crate::Played;
 use crate::Player;
 use map::Numbers;
@@ -39,6 +38,7 @@ fn writes_list(command: Command) -> bool
         Command::Poke(_, _, _) => false,
         Command::Header(_, _) => false,
         Command::Check => false,
+        Command::Pending => false,
     }
 }
 
@@ -80,9 +80,9 @@ fn kept_size(command: Command, reply: Reply) -> usize
     0
 }
 
-// A list of so many bytes at the front of what is shown is the last one, where it has any.
-fn keep(mut player: Player, size: usize, shown: &[u8]) -> Player
-    ensures { λ r. ⌜ r ≡ keeping player size (now (shown .entry)) ⌝ }
+// A list of so many bytes at the front of what is shown is the last one, where it has any, with the bus that its heads are for.
+fn keep(mut player: Player, size: usize, shown: &[u8], bus: usize) -> Player
+    ensures { λ r. ⌜ r ≡ keeping player size (now (shown .entry)) bus ⌝ }
 {
     if size == 0 {
         return player;
@@ -93,7 +93,7 @@ fn keep(mut player: Player, size: usize, shown: &[u8]) -> Player
     let mut list = player.list;
     player.listed = text::put_text(&mut list, 0, &shown[..size]);
     player.list = list;
-    player.bus = player.session.world.host.header.bus as usize;
+    player.bus = bus;
     player
 }
 
@@ -108,17 +108,23 @@ pub(crate) fn run(
     requires { ⌜ Run command ≡ lineOf (now line) ⌝ }
     ensures { λ r. ⌜ r .player ≡ afterCommand player command (now (line .entry)) ⌝ }
     ensures { λ r. ⌜ Puts (now (text .entry)) at (commandLine player command (now (line .entry))) (now (text .exit)) (r .at) ⌝ }
-    ensures { λ _. ⌜ length (commandLine player command (now (line .entry))) ≤ longestReply ⌝ }
+    ensures { λ _. ⌜ length (commandLine player command (now (line .entry))) ≤ longestText ⌝ }
 {
     let mut buffer = [0xA5u8; session::ROOM];
-    let outcome = session::run(player.session, command, line, &mut buffer);
+    let session = booth::current_session(player.booth);
+    let outcome = session::run(session, command, line, &mut buffer);
     let reply = outcome.reply;
     let shown = outcome.shown;
     let session = outcome.session;
-    player.session = session;
+    player.booth = booth::with_current(player.booth, session);
     let end = replies::put_line(text, at, reply, &buffer[..shown]);
     Played {
-        player: keep(player, kept_size(command, reply), &buffer[..shown]),
+        player: keep(
+            player,
+            kept_size(command, reply),
+            &buffer[..shown],
+            session.world.host.header.bus as usize,
+        ),
         at: end,
     }
 }

@@ -1,6 +1,7 @@
 -- `player::play_line` meets its contract.
 -- Assumes nothing.
-use Rattle.player.proofs.Steps.{run-line, aside-fits, run-played, aside-played}
+use mathlib.Core.Path.{refl}
+use Rattle.player.proofs.Steps.{run-line, aside-fits, run-played, aside-played, panel-played, round-played}
 use borrow.Author.Needs.{needs}
 use Rattle.player.proofs.play_line.Statement.{statement}
 use Rattle.player.proofs.play_line.Tie as tie
@@ -23,6 +24,21 @@ after-requires c κs = search needs
 put-requires : tie.Need-put-requires
 put-requires c κs = aside-fits _ _ _ (c .before .before .before .before .before .read .ensures) (c .before .before .before .aside .given .1)
 
+enum-known-place : tie.Need-enum-known-place
+enum-known-place c = search needs
+
+panel-requires : tie.Need-panel-requires
+panel-requires c κs = search needs
+
+enum-told : tie.Need-enum-told
+enum-told c = search needs
+
+slice-aggregate-put-text : tie.Need-slice-aggregate-put-text
+slice-aggregate-put-text c = search needs
+
+put-text-requires : tie.Need-put-text-requires
+put-text-requires c κs = search needs
+
 same-length : tie.Need-same-length
 same-length c = search needs
 
@@ -44,6 +60,26 @@ returns-2 c =
     let read = told .before .before in
     aside-played _ _ _ (read .read .ensures) _ _ _ _ _ _ (told .aside .given .1) (changed .after .ensures) (put .put .ensures)
 
+same-length-3 : tie.Need-same-length-3
+same-length-3 c = search needs
+
+returns-3 : tie.Need-returns-3
+returns-3 c =
+    let moved = c .before .before in
+    let told = moved .before .before .before in
+    let read = told .before .before in
+    panel-played _ _ _ (read .read .ensures) _ _ _ _ _ _ (told .place .given .1) (moved .panel .ensures .0) (moved .panel .ensures .1)
+
+same-length-4 : tie.Need-same-length-4
+same-length-4 c = search needs
+
+returns-4 : tie.Need-returns-4
+returns-4 c =
+    let put = c .before .before in
+    let told = put .before .before .before in
+    let read = told .before .before in
+    round-played _ _ _ (read .read .ensures) _ _ _ _ _ _ _ _ (told .enum-told .given .1) refl (put .put-text .ensures)
+
 pub play-line-spec : {M : Type 1} → statement M
 play-line-spec =
     tie.close
@@ -54,7 +90,16 @@ play-line-spec =
     enum-known-aside
     after-requires
     put-requires
+    enum-known-place
+    panel-requires
+    enum-told
+    slice-aggregate-put-text
+    put-text-requires
     same-length
     returns
     same-length-2
-    returns-2)
+    returns-2
+    same-length-3
+    returns-3
+    same-length-4
+    returns-4)

@@ -3,11 +3,14 @@
 use mathlib.Core.Path.{refl}
 use Rattle.text.specs.TextLaws.{puts-then}
 use Rattle.script.specs.LineLaws.{AsideFits}
-use Rattle.player.specs.Play.{asideLine}
+use Rattle.player.specs.Play.{sessionOf, asideLine}
 use Rattle.player.proofs.Steps.{puts-none}
 use borrow.Author.Needs.{needs}
 use Rattle.player.proofs.asides.put.Statement.{statement}
 use Rattle.player.proofs.asides.put.Tie as tie
+
+current-session-requires : tie.Need-current-session-requires
+current-session-requires c κs = search needs
 
 enum-told : tie.Need-enum-told
 enum-told c = search needs
@@ -35,7 +38,7 @@ enum-known-aside-2 c = search needs
 
 put-fault-map-requires : tie.Need-put-fault-map-requires
 unfolding AsideFits
-put-fault-map-requires c κs = rw (c .before .before .before .aside2 .given .1) at (c .before .before .before .before .before .before .before .pre)
+put-fault-map-requires c κs = rw (c .before .before .aside2 .given .1) at (c .before .before .before .before .before .before .before .before .pre)
 
 put-requires-2 : tie.Need-put-requires-2
 put-requires-2 c κs = search needs
@@ -73,34 +76,34 @@ same-length-2 : tie.Need-same-length-2
 same-length-2 c = search needs
 
 returns-3 : tie.Need-returns-3
-unfolding asideLine
+unfolding asideLine sessionOf
 returns-3 c =
     let ended = c .before .before in
     let drawn = ended .before .before .before .before in
-    let told = drawn .before .before .before .before in
-    rw (told .aside .given .1) (puts-then _ _ _ _ _ _ _ _ (drawn .put-lamps .ensures) (ended .put .ensures))
+    let told = drawn .before .before .before in
+    rw (told .aside .given .1, ← told .before .before .current-session .ensures) (puts-then _ _ _ _ _ _ _ _ (drawn .put-lamps .ensures) (ended .put .ensures))
 
 same-length-3 : tie.Need-same-length-3
 same-length-3 c = search needs
 
 returns-4 : tie.Need-returns-4
-unfolding asideLine
+unfolding asideLine sessionOf
 returns-4 c =
     let ended = c .before .before in
     let drawn = ended .before .before .before .before in
-    let told = drawn .before .before .before .before in
-    rw (told .aside2 .given .1) (puts-then _ _ _ _ _ _ _ _ (drawn .put-fault-map .ensures) (ended .put2 .ensures))
+    let told = drawn .before .before .before in
+    rw (told .aside2 .given .1, ← told .before .before .current-session .ensures) (puts-then _ _ _ _ _ _ _ _ (drawn .put-fault-map .ensures) (ended .put2 .ensures))
 
 same-length-4 : tie.Need-same-length-4
 same-length-4 c = search needs
 
 returns-5 : tie.Need-returns-5
-unfolding asideLine
+unfolding asideLine sessionOf
 returns-5 c =
     let ended = c .before .before in
     let drawn = ended .before .before .before .before in
-    let told = drawn .before .before .before in
-    rw (told .enum-told3 .given .1) (puts-then _ _ _ _ _ _ _ _ (drawn .put-differences .ensures) (ended .put3 .ensures))
+    let told = drawn .before .before in
+    rw (told .enum-told3 .given .1, ← told .before .before .current-session .ensures) (puts-then _ _ _ _ _ _ _ _ (drawn .put-differences .ensures) (ended .put3 .ensures))
 
 same-length-5 : tie.Need-same-length-5
 same-length-5 c = search needs
@@ -117,6 +120,7 @@ pub put-spec : {M : Type 1} → statement M
 put-spec =
     tie.close
     (tie.spec
+    current-session-requires
     enum-told
     enum-told-2
     slice-aggregate-put-text

@@ -9,10 +9,10 @@ use Rattle.player.proofs.running.keep.Statement.{statement}
 use Rattle.player.proofs.running.keep.Tie as tie
 
 returns : tie.Need-returns
-returns c = keep-none _ _ _ (c .if1 .taken)
+returns c = keep-none _ _ _ _ (c .if1 .taken)
 
 returns-2 : tie.Need-returns-2
-returns-2 c = keep-short _ _ _ (c .if2 .taken)
+returns-2 c = keep-short _ _ _ _ (c .if2 .taken)
 
 slice-aggregate-put-text : tie.Need-slice-aggregate-put-text
 slice-aggregate-put-text c = search needs
@@ -23,15 +23,12 @@ slice-aggregate-put-text-2 c = sym (length-take-le _ _ (omega arith))
 put-text-requires : tie.Need-put-text-requires
 put-text-requires c κs = search needs
 
-cast-player : tie.Need-cast-player
-cast-player c = search needs
-
 returns-3 : tie.Need-returns-3
 returns-3 c =
-    let put = c .before .before in
+    let put = c .before in
     let fits = put .before .before .before .before in
     let some = fits .before in
-    keep-put _ _ _ _ _ (some .if1 .left) (fits .if2 .left) (put .put-text .ensures)
+    keep-put _ _ _ _ _ _ (some .if1 .left) (fits .if2 .left) (put .put-text .ensures)
 
 pub keep-spec : {M : Type 1} → statement M
 keep-spec =
@@ -42,5 +39,4 @@ keep-spec =
     slice-aggregate-put-text
     slice-aggregate-put-text-2
     put-text-requires
-    cast-player
     returns-3)

@@ -2,11 +2,14 @@
 -- Assumes nothing.
 use mathlib.Core.Path.{sym}
 use lib.Seq.{length-take-le}
-use Rattle.player.specs.Play.{withSession, freshBuffer}
+use Rattle.player.specs.Play.{withBooth, freshBuffer}
 use Rattle.player.proofs.Steps.{command-played}
 use borrow.Author.Needs.{needs}
 use Rattle.player.proofs.running.run.Statement.{statement}
 use Rattle.player.proofs.running.run.Tie as tie
+
+current-session-requires : tie.Need-current-session-requires
+current-session-requires c κs = search needs
 
 slice-aggregate-run : tie.Need-slice-aggregate-run
 slice-aggregate-run c = search needs
@@ -14,11 +17,14 @@ slice-aggregate-run c = search needs
 run-requires : tie.Need-run-requires
 run-requires c κs = search needs
 
+with-current-requires : tie.Need-with-current-requires
+with-current-requires c κs = search needs
+
 array-share-prefix-buffer : tie.Need-array-share-prefix-buffer
 array-share-prefix-buffer c = search needs
 
 slice-aggregate-put-line : tie.Need-slice-aggregate-put-line
-slice-aggregate-put-line c = sym (length-take-le _ _ (c .before .before .before .before .run .ensures .within))
+slice-aggregate-put-line c = sym (length-take-le _ _ (c .before .before .before .before .before .run .ensures .within))
 
 put-line-requires : tie.Need-put-line-requires
 put-line-requires c κs = search needs
@@ -30,7 +36,10 @@ array-share-prefix-buffer-2 : tie.Need-array-share-prefix-buffer-2
 array-share-prefix-buffer-2 c = search needs
 
 slice-aggregate-keep : tie.Need-slice-aggregate-keep
-slice-aggregate-keep c = sym (length-take-le _ _ (c .before .before .before .before .before .before .before .before .before .run .ensures .within))
+slice-aggregate-keep c = sym (length-take-le _ _ (c .before .before .before .before .before .before .before .before .before .before .run .ensures .within))
+
+cast-keep : tie.Need-cast-keep
+cast-keep c = search needs
 
 keep-requires : tie.Need-keep-requires
 keep-requires c κs = search needs
@@ -39,26 +48,31 @@ same-length : tie.Need-same-length
 same-length c = search needs
 
 returns : tie.Need-returns
-unfolding withSession freshBuffer
+unfolding withBooth freshBuffer
 returns c =
-    let sized = c .before .before in
+    let sized = c .before .before .before in
     let put = sized .before .before .before in
-    let ran = put .before .before .before .before .before in
-    let given = ran .before .before .before .before in
-    command-played _ _ _ _ _ _ _ _ _ _ _ (given .pre) (ran .run .kept .1 .1 .1 .0) (ran .run .ensures) (put .put-line .ensures) (sized .kept-size .ensures) (c .keep .ensures)
+    let moved = put .before .before .before in
+    let ran = moved .before .before .before in
+    let found = ran .before .before in
+    command-played _ _ _ _ _ _ _ _ _ _ _ _ _ (found .before .before .before .pre) (found .current-session .ensures) (ran .run .kept .1 .1 .1 .0)
+    (ran .run .ensures) (moved .with-current .ensures) (put .put-line .ensures) (sized .kept-size .ensures) (c .keep .ensures)
 
 pub run-spec : {M : Type 1} → statement M
 run-spec =
     tie.close
     (tie.spec
+    current-session-requires
     slice-aggregate-run
     run-requires
+    with-current-requires
     array-share-prefix-buffer
     slice-aggregate-put-line
     put-line-requires
     kept-size-requires
     array-share-prefix-buffer-2
     slice-aggregate-keep
+    cast-keep
     keep-requires
     same-length
     returns)

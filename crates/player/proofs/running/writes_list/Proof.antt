@@ -39,6 +39,9 @@ enum-told-8 c = search needs
 enum-told-9 : tie.Need-enum-told-9
 enum-told-9 c = search needs
 
+enum-told-10 : tie.Need-enum-told-10
+enum-told-10 c = search needs
+
 returns : tie.Need-returns
 unfolding writesList
 returns c = rw (c .enum-told .given .1) refl
@@ -79,6 +82,10 @@ returns-10 : tie.Need-returns-10
 unfolding writesList
 returns-10 c = rw (c .enum-told9 .given .1) refl
 
+returns-11 : tie.Need-returns-11
+unfolding writesList
+returns-11 c = rw (c .enum-told10 .given .1) refl
+
 pub writes-list-spec : {M : Type 1} → statement M
 writes-list-spec =
     tie.close
@@ -94,6 +101,7 @@ writes-list-spec =
     enum-told-7
     enum-told-8
     enum-told-9
+    enum-told-10
     returns
     returns-2
     returns-3
@@ -103,4 +111,5 @@ writes-list-spec =
     returns-7
     returns-8
     returns-9
-    returns-10)
+    returns-10
+    returns-11)
