@@ -103,7 +103,7 @@ openEffect s m bus p = numbered (openAnswer m bus p) (cond (opens m bus p) (open
 
 -- ---- Calls on the record, whose lists are fed at once
 
--- "It runs the real calls on one host record and one chip model": both are the call's, the ledger stays
+-- "It runs the real calls on host records and chip models": both are the call's, the ledger stays
 unfoldable pub withWorld : Session → World → Session
 withWorld s w = record { world = w; ledger = s .ledger; valid = s .valid }
 
