@@ -1,23 +1,21 @@
 -- Four panels in a script: "There are four panels, 0 to 3, each with its own record, chip and ledger". What stands at the places 0 to 3 is a
--- function of the place: s is the sessions.
+-- function of the place: s is the sessions. A number above 3 names the last place.
 -- Assumes nothing.
-use mathlib.Core.Bool.{cond}
-use Prim.Native.Nat.{ℕ, zero, suc}
+use mathlib.Core.Bool.{Bool, cond}
+use mathlib.Core.List.{List}
+use Prim.Native.Nat.{ℕ, _/_, _%_}
 use lib.Dec.{eqb}
+use Rattle.history.specs.Step.{callNumbers}
+use Rattle.rounds.specs.declared.Present.{Present}
+use Rattle.rounds.specs.Round.{atPlace}
+use Rattle.bus.specs.declared.Panels.{Panels}
+use Rattle.bus.specs.declared.BusRequest.the-variants.{Round}
+use Rattle.bus.specs.declared.BusStepped.{BusStepped}
+use Rattle.bus.specs.Bus.{BusCall, placeOf, worldAt, callOf, busLent, steppedOf}
 use Rattle.session.specs.declared.Session.{Session}
-use Rattle.session.specs.Run.{openedSession}
+use Rattle.session.specs.Run.{openedSession, withWorld}
 use Rattle.booth.specs.declared.Booth.{Booth}
-
--- what stands at a place
-abbrev pub atPlace : {A : Type 0} → A → A → A → A → ℕ → A
-atPlace a b c d zero = a
-atPlace a b c d (suc zero) = b
-atPlace a b c d (suc (suc zero)) = c
-atPlace a b c d (suc (suc (suc k))) = d
-
--- the place that a number names: above 3 it is the last one
-abbrev pub placeOf : ℕ → ℕ
-placeOf j = atPlace 0 1 2 3 j
+use Rattle.booth.specs.declared.BoothRounded.{BoothRounded}
 
 abbrev pub sessionAt : Booth → ℕ → Session
 sessionAt x = atPlace (x .first) (x .second) (x .third) (x .fourth)
@@ -41,3 +39,34 @@ withCurrent x s = boothOf (λ k. cond (eqb k (placeOf (x .current))) s (sessionA
 -- "`panel K` .. makes K the one that all other lines are about"
 unfoldable pub selected : Booth → ℕ → Booth
 selected x k = boothOf (sessionAt x) k
+
+-- ---- `round`
+
+-- "bit k says that panel k is present"
+abbrev marked : ℕ → Bool
+marked n = eqb (n % 2) 1
+
+unfoldable pub presentOf : ℕ → Present
+presentOf p = record { first = marked p; second = marked (p / 2); third = marked (p / 4); fourth = marked (p / 8) }
+
+-- the records and the chips of the four panels
+abbrev pub panelsIn : Booth → Panels
+panelsIn x = record { first = x .first .world; second = x .second .world; third = x .third .world; fourth = x .fourth .world }
+
+-- others of them: "It tells no ledger, and it leaves the current panel as it is."
+unfoldable pub withPanels : Booth → Panels → Booth
+withPanels x y = boothOf (λ k. withWorld (sessionAt x k) (worldAt y k)) (x .current)
+
+-- "Round of the four records, with a buffer of L bytes": the bus call, with the marks p and B
+unfoldable pub roundCall : ℕ → ℕ → List ℕ → BusCall
+roundCall p limit buffer = callOf (Round (presentOf p) limit) buffer
+
+-- what it answers, and the four panels after it. "An accepted list is fed at once to the chip of every panel k whose chip is on bus 0 with pins k"
+unfoldable pub roundedBooth : Booth → ℕ → ℕ → List ℕ → BoothRounded
+roundedBooth x p limit buffer =
+    let after : BusStepped = steppedOf (panelsIn x) (roundCall p limit buffer) in
+    record { numbers = callNumbers (after .answer); booth = withPanels x (after .panels) }
+
+-- the buffer as it leaves it
+unfoldable pub roundLent : Booth → ℕ → ℕ → List ℕ → List ℕ
+roundLent x p limit buffer = busLent (worldAt (panelsIn x)) (roundCall p limit buffer)

@@ -7,7 +7,9 @@ use native.Mathlib.Omega.{arith}
 use lib.Dec.{eqb}
 use Rattle.session.specs.declared.Session.{Session}
 use Rattle.booth.specs.declared.Booth.{Booth}
-use Rattle.booth.specs.Booth.{atPlace, placeOf, sessionAt, currentOf, withCurrent, selected}
+use Rattle.rounds.specs.Round.{atPlace}
+use Rattle.bus.specs.Bus.{placeOf}
+use Rattle.booth.specs.Booth.{sessionAt, currentOf, withCurrent, selected}
 
 -- a function of the place, at each place
 four : {A : Type 0} (f : ℕ → A) (k : ℕ) → k < 4 → atPlace (f 0) (f 1) (f 2) (f 3) k ≡ f k

@@ -1,2 +1,3 @@
 pub mod Booth
 pub mod BoothLaws
+pub mod RoundLaws

@@ -1,9 +1,13 @@
 // Four panels, places 0 to 3, each with a session of its own: its record, its chip and its ledger. One of them is the current one, which a
 // line of a script is about unless it says otherwise. docs/REPLAY.md has the lines.
 //
-// `start` is the four before the first line. A number above 3 names the last place.
+// `start` is the four before the first line. A number above 3 names the last place. `round` makes a round of all four.
+mod rounding;
+
 ghost use mathlib.Core.Path.{_≡_};
 ghost use Rattle.booth.specs.Booth.{freshBooth, currentOf, withCurrent, selected};
+use map::Numbers;
+pub use rounding::round;
 use session::Session;
 
 // The sessions of the four places, and the place of the current one.
@@ -13,6 +17,12 @@ pub struct Booth {
     pub third: Session,
     pub fourth: Session,
     pub current: usize,
+}
+
+// The numbers of a round's answer, and the panels after it.
+pub struct BoothRounded {
+    pub numbers: Numbers,
+    pub booth: Booth,
 }
 
 // Before the first line.

@@ -7,7 +7,7 @@ use Prim.Native.Nat.{ℕ, _+_, _*_, _≤_, _<_}
 use native.Mathlib.Omega.{arith}
 use borrow.Author.Tests.{lt-ltb, le-ltb, le-leb, lt-leb, eq-eqb, ne-eqb}
 use lib.Dec.{ltb, leb, eqb}
-use lib.ListN.{length, take, replicate}
+use lib.ListN.{length, take, replicate, length-take}
 use lib.Seq.{take-length, take-all}
 use Rattle.map.specs.declared.refusals.Numbers as numbers
 use Rattle.map.specs.declared.refusals.Refusal.{Refusal}
@@ -23,6 +23,7 @@ use Rattle.script.specs.declared.command.Line.{Line}
 use Rattle.script.specs.declared.command.Line.the-variants.{Run, Aside, Panel, Round}
 use Rattle.script.specs.Lines.{withoutCr, isSilent, lineOf}
 use Rattle.script.specs.LineLaws.{AsideFits, Fits, fits}
+use Rattle.replies.specs.declared.Reply.the-variants.{Lent}
 use Rattle.replies.specs.Replies.{replyLine, echoLine}
 use Rattle.listing.specs.Show.{listText}
 use Rattle.pictures.specs.Pictures.{faultsText, differencesText}
@@ -31,10 +32,11 @@ use Rattle.session.specs.declared.Session.{Session}
 use Rattle.session.specs.Run.{Effect, Does, effectOf}
 use Rattle.session.specs.LengthLaws.{replies}
 use Rattle.booth.specs.declared.Booth.{Booth}
-use Rattle.booth.specs.Booth.{currentOf, withCurrent}
+use Rattle.booth.specs.declared.BoothRounded.{BoothRounded}
+use Rattle.booth.specs.Booth.{currentOf, withCurrent, roundedBooth, roundLent}
 use Rattle.player.specs.declared.Player.{Player}
-use Rattle.player.specs.Play.{withBooth, sessionOf, withSession, countedFrom, counted, freshBuffer, effect, commandLine, sizeBy, keptSize, keeping, afterEffect, afterCommand, readingsAnswer, faultMapBy, faultMapText, differencesOf, lastListText, zeroLine, asideLine, afterAside, afterPanel, echoText, lineTextBy, lineText, afterBy, afterLine, playerAfter, echoedText, printed, longestText, longestLine}
-use Rattle.player.specs.PlayLaws.{aside-most, printed-most}
+use Rattle.player.specs.Play.{withBooth, sessionOf, withSession, countedFrom, counted, freshBuffer, effect, commandLine, sizeBy, keptSize, keeping, afterEffect, afterCommand, readingsAnswer, faultMapBy, faultMapText, differencesOf, lastListText, zeroLine, asideLine, afterAside, afterPanel, rounded, roundShown, roundLine, afterRound, echoText, lineTextBy, lineText, afterBy, afterLine, playerAfter, echoedText, printed, longestText, longestLine}
+use Rattle.player.specs.PlayLaws.{aside-most, round-most, printed-most}
 
 -- ---- counting
 
@@ -119,11 +121,22 @@ pub command-played : (p : Player) (s : Session) (c : Command) (l e : List ℕ) (
 unfolding afterCommand afterEffect commandLine effect sessionOf withSession
 command-played p s c l e r b old new at n k q is es h d eb put ek eq =
     let said = replies s c l freshBuffer is r e h d in
-    rw (← es)
-    (
+    rw (← es) (
       eq ∙ rw (eb, ek) refl ∙ ap (afterEffect p c) (said .effect-is),
       (puts-as old at _ _ new n (said .line) put, omega (arith, said .most)),
     )
+
+-- ---- a round: e is the buffer after it, of which the first k bytes were lent
+
+pub round-put : (p : Player) (m limit k : ℕ) (e : List ℕ) (r : BoothRounded) (old new : List ℕ) (at n size : ℕ) (q : Player) → length e ≡ 8192 →
+    r ≡ roundedBooth (p .booth) m limit (take k freshBuffer) → take k e ≡ roundLent (p .booth) m limit (take k freshBuffer) →
+    Puts old at (replyLine (Lent (r .numbers)) (take k e)) new n → size ≡ sizeBy (r .numbers) → q ≡ keeping (withBooth p (r .booth)) size (take k e) 0 →
+    (q ≡ afterRound p m limit k) × (Puts old at (roundLine p m limit k) new n × (length (roundLine p m limit k) ≤ longestText))
+unfolding afterRound roundLine rounded roundShown
+round-put p m limit k e r old new at n size q h er el put es eq = (
+  eq ∙ rw (es, el, er) refl,
+  (rw (← er, ← el) put, round-most p m limit k (rw (← el) (omega (arith, length-take k e)))),
+)
 
 -- ---- asides
 
@@ -172,6 +185,10 @@ pub aside-fits : (l : List ℕ) (x : Line) (a : asides.Aside) → x ≡ lineOf l
 unfolding Fits
 aside-fits l x a e is = fits l (Aside a) (sym is ∙ e)
 
+pub round-fits : (l : List ℕ) (x : Line) (m b k : ℕ) → x ≡ lineOf l → x ≡ Round m b k → k ≤ 8192
+unfolding Fits
+round-fits l x m b k e is = fits l (Round m b k) (sym is ∙ e) .1
+
 module _ (p : Player) (l : List ℕ) (x : Line) (e : x ≡ lineOf l) (q : Player) (old new : List ℕ) (at n : ℕ) where
   -- what `play_line` promises
   abbrev pub PlaysLine : Type 0
@@ -190,9 +207,10 @@ module _ (p : Player) (l : List ℕ) (x : Line) (e : x ≡ lineOf l) (q : Player
   unfolding afterLine lineText afterBy lineTextBy
   panel-played k is eq put = rw (sym e ∙ is) (eq, (put, omega arith))
 
-  pub round-played : (m b k : ℕ) → x ≡ Round m b k → q ≡ p → Puts old at (0x3F ∷ 0x0A ∷ []) new n → PlaysLine
+  pub round-played : (m b k : ℕ) → x ≡ Round m b k →
+      (q ≡ afterRound p m b k) × (Puts old at (roundLine p m b k) new n × (length (roundLine p m b k) ≤ longestText)) → PlaysLine
   unfolding afterLine lineText afterBy lineTextBy
-  round-played m b k is eq put = rw (sym e ∙ is) (eq, (put, omega arith))
+  round-played m b k is h = rw (sym e ∙ is) h
 
 pub played : (p q r : Player) (l w old mid new : List ℕ) (at next n : ℕ) → w ≡ withoutCr l → q ≡ counted p →
     Puts old at (echoText (q .echo) (q .lines) w) mid next → PlaysLine q w (lineOf w) refl r mid new next n →

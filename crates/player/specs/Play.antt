@@ -33,7 +33,8 @@ use Rattle.pictures.specs.Pictures.{lampsText, faultsText, differencesText}
 use Rattle.session.specs.declared.Session.{Session}
 use Rattle.session.specs.Run.{Effect, effectOf}
 use Rattle.booth.specs.declared.Booth.{Booth}
-use Rattle.booth.specs.Booth.{freshBooth, currentOf, withCurrent, selected}
+use Rattle.booth.specs.declared.BoothRounded.{BoothRounded}
+use Rattle.booth.specs.Booth.{freshBooth, currentOf, withCurrent, selected, roundedBooth, roundLent}
 use Rattle.player.specs.declared.Player.{Player}
 
 -- ---- The player
@@ -195,18 +196,34 @@ afterAside p LastList = p
 unfoldable pub afterPanel : Player → ℕ → Player
 afterPanel p k = withBooth p (selected (p .booth) k)
 
+-- "Round of the four records, with a buffer of L bytes": with the marks m and B, and n bytes lent
+unfoldable pub rounded : Player → ℕ → ℕ → ℕ → BoothRounded
+rounded p m limit n = roundedBooth (p .booth) m limit (take n freshBuffer)
+
+-- the buffer after it
+unfoldable pub roundShown : Player → ℕ → ℕ → ℕ → List ℕ
+roundShown p m limit n = roundLent (p .booth) m limit (take n freshBuffer)
+
+-- "`0 n t BUFFER`, or `N BUFFER`"
+unfoldable pub roundLine : Player → ℕ → ℕ → ℕ → List ℕ
+roundLine p m limit n = replyLine (Lent (rounded p m limit n .numbers)) (roundShown p m limit n)
+
+-- the panels that it leaves, and its list as the last one, whose heads are read "by bus 0"
+unfoldable pub afterRound : Player → ℕ → ℕ → ℕ → Player
+afterRound p m limit n = keeping (withBooth p (rounded p m limit n .booth)) (sizeBy (rounded p m limit n .numbers)) (roundShown p m limit n) 0
+
 -- ---- A line
 
 -- "`echo on` puts the line's number and the call before its answer": the first 8,192 bytes of the line; nothing of a comment or an empty line
 unfoldable pub echoText : Bool → ℕ → List ℕ → List ℕ
 echoText on n l = cond (not (isSilent l) && on) (echoLine n (take 8192 l)) []
 
--- a command prints its reply, an aside what it shows, `panel` prints `0`
+-- a command and a round print their reply, an aside what it shows, `panel` prints `0`
 unfoldable pub lineTextBy : Player → Line → List ℕ → List ℕ
 lineTextBy p (Run c) l = commandLine p c l
 lineTextBy p (Aside x) l = asideLine p x l
 lineTextBy p (Panel k) l = zeroLine
-lineTextBy p (Round marks limit n) l = 0x3F ∷ 0x0A ∷ []
+lineTextBy p (Round m limit n) l = roundLine p m limit n
 
 -- what a line prints that was counted
 unfoldable pub lineText : Player → List ℕ → List ℕ
@@ -217,7 +234,7 @@ unfoldable pub afterBy : Player → Line → List ℕ → Player
 afterBy p (Run c) l = afterCommand p c l
 afterBy p (Aside x) l = afterAside p x
 afterBy p (Panel k) l = afterPanel p k
-afterBy p (Round marks limit n) l = p
+afterBy p (Round m limit n) l = afterRound p m limit n
 
 -- the player after a line that was counted
 unfoldable pub afterLine : Player → List ℕ → Player

@@ -11,11 +11,12 @@ use borrow.Author.Tests.{lt-ltb, le-ltb, le-leb, leb-true}
 use lib.Dec.{ltb, leb}
 use lib.ListN.{length, take, length-append, length-take}
 use lib.Seq.{length-take-le}
+use Rattle.map.specs.Refusals.{numbersIn}
 use Rattle.map.specs.RefusalLaws.{refusal-small}
 use Rattle.faults.specs.declared.Answer as faults
 use Rattle.history.specs.declared.World.{World}
-use Rattle.text.specs.Text.{placed, placeAfter, decimalText}
-use Rattle.text.specs.TextLaws.{placed-length, placed-room, after-room, decimal-length}
+use Rattle.text.specs.Text.{placed, placeAfter, decimalText, bytesText}
+use Rattle.text.specs.TextLaws.{placed-length, placed-room, after-room, decimal-length, bytes-length}
 use Rattle.script.specs.declared.command.Part.{Part}
 use Rattle.script.specs.declared.command.Part.the-variants.{Settings, Image, Chip}
 use Rattle.script.specs.declared.command.Aside as asides
@@ -23,14 +24,15 @@ use Rattle.script.specs.declared.command.Aside.the-variants.{Silent, Echo, Lamp
 use Rattle.script.specs.Words.{wordAt}
 use Rattle.script.specs.Bytes.{bytesOf}
 use Rattle.script.specs.Lines.{withoutCr, isSilent}
-use Rattle.replies.specs.Replies.{echoLine}
+use Rattle.replies.specs.Replies.{numbersText, lentText, replyText, replyLine, echoLine}
 use Rattle.listing.specs.Show.{listText}
 use Rattle.listing.specs.ShowLaws.{list-short}
 use Rattle.pictures.specs.Pictures.{lampsText, faultsText, differencesText}
 use Rattle.pictures.specs.PictureLaws.{lamps-most, faults-most, differences-most}
 use Rattle.session.specs.declared.Session.{Session}
+use Rattle.booth.specs.RoundLaws.{round-numbers}
 use Rattle.player.specs.declared.Player.{Player}
-use Rattle.player.specs.Play.{countedFrom, counted, sessionOf, lampsOf, faultMapBy, faultMapText, differencesOf, lastListText, keeping, asideLine, echoText, lineText, echoedText, printed, longestText, longestLine}
+use Rattle.player.specs.Play.{countedFrom, counted, sessionOf, freshBuffer, rounded, roundShown, roundLine, lampsOf, faultMapBy, faultMapText, differencesOf, lastListText, keeping, asideLine, echoText, lineText, echoedText, printed, longestText, longestLine}
 
 -- ---- asides
 
@@ -92,6 +94,22 @@ aside-most p (FaultMap k) l =
     omega (arith, length-append text (0x0A ∷ []), most)
 aside-most p Diff l = omega (arith, length-append (differencesOf (sessionOf p)) (0x0A ∷ []), differences-of (sessionOf p))
 aside-most p LastList l = omega (arith, length-append (lastListText (p .bus) (p .list) (p .listed)) (0x0A ∷ []), last-list (p .bus) (p .list) (p .listed))
+
+-- ---- a round
+
+-- of which at most 8,192 bytes are shown
+pub round-most : (p : Player) (m limit n : ℕ) → length (roundShown p m limit n) ≤ 8192 → length (roundLine p m limit n) ≤ longestText
+unfolding roundLine rounded replyLine replyText lentText
+round-most p m limit n h =
+    let numbers : List ℕ = numbersText (numbersIn (rounded p m limit n .numbers)) in
+    let shown : List ℕ = roundShown p m limit n in
+    omega (
+      arith,
+      length-append (numbers ++ (0x20 ∷ bytesText shown)) (0x0A ∷ []),
+      length-append numbers (0x20 ∷ bytesText shown),
+      round-numbers (p .booth) m limit (take n freshBuffer),
+      bytes-length 16384 shown (omega arith) (omega arith),
+    )
 
 -- ---- any line
 

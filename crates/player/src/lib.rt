@@ -84,10 +84,7 @@ fn play_line(player: Player, line: &[u8], text: &mut [u8], at: usize) -> Played
             at: asides::put(player, aside, line, text, at),
         },
         Line::Panel(place) => panels::panel(player, place, text, at),
-        Line::Round(_, _, _) => Played {
-            player: player,
-            at: text::put_text(text, at, b"?\n"),
-        },
+        Line::Round(marks, limit, room) => panels::round(player, marks, limit, room, text, at),
     }
 }
 

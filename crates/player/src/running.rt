@@ -43,7 +43,7 @@ fn writes_list(command: Command) -> bool
 }
 
 // The size of the list that an answer of 0, n and t tells of; 0 where there is none.
-fn size_by(numbers: Numbers) -> usize
+pub(crate) fn size_by(numbers: Numbers) -> usize
     ensures { λ r. ⌜ r ≡ sizeBy numbers ⌝ }
 {
     if numbers.number != 0 {
@@ -81,7 +81,7 @@ fn kept_size(command: Command, reply: Reply) -> usize
 }
 
 // A list of so many bytes at the front of what is shown is the last one, where it has any, with the bus that its heads are for.
-fn keep(mut player: Player, size: usize, shown: &[u8], bus: usize) -> Player
+pub(crate) fn keep(mut player: Player, size: usize, shown: &[u8], bus: usize) -> Player
     ensures { λ r. ⌜ r ≡ keeping player size (now (shown .entry)) bus ⌝ }
 {
     if size == 0 {

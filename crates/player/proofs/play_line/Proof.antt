@@ -1,7 +1,6 @@
 -- `player::play_line` meets its contract.
 -- Assumes nothing.
-use mathlib.Core.Path.{refl}
-use Rattle.player.proofs.Steps.{run-line, aside-fits, run-played, aside-played, panel-played, round-played}
+use Rattle.player.proofs.Steps.{run-line, aside-fits, round-fits, run-played, aside-played, panel-played, round-played}
 use borrow.Author.Needs.{needs}
 use Rattle.player.proofs.play_line.Statement.{statement}
 use Rattle.player.proofs.play_line.Tie as tie
@@ -30,14 +29,11 @@ enum-known-place c = search needs
 panel-requires : tie.Need-panel-requires
 panel-requires c κs = search needs
 
-enum-told : tie.Need-enum-told
-enum-told c = search needs
+enum-known-marks : tie.Need-enum-known-marks
+enum-known-marks c = search needs
 
-slice-aggregate-put-text : tie.Need-slice-aggregate-put-text
-slice-aggregate-put-text c = search needs
-
-put-text-requires : tie.Need-put-text-requires
-put-text-requires c κs = search needs
+round-requires : tie.Need-round-requires
+round-requires c κs = round-fits _ _ _ _ _ (c .before .before .before .before .read .ensures) (c .before .before .marks .given .1)
 
 same-length : tie.Need-same-length
 same-length c = search needs
@@ -75,10 +71,10 @@ same-length-4 c = search needs
 
 returns-4 : tie.Need-returns-4
 returns-4 c =
-    let put = c .before .before in
-    let told = put .before .before .before in
+    let went = c .before .before in
+    let told = went .before .before .before in
     let read = told .before .before in
-    round-played _ _ _ (read .read .ensures) _ _ _ _ _ _ _ _ (told .enum-told .given .1) refl (put .put-text .ensures)
+    round-played _ _ _ (read .read .ensures) _ _ _ _ _ _ _ _ (told .marks .given .1) (went .round .ensures)
 
 pub play-line-spec : {M : Type 1} → statement M
 play-line-spec =
@@ -92,9 +88,8 @@ play-line-spec =
     put-requires
     enum-known-place
     panel-requires
-    enum-told
-    slice-aggregate-put-text
-    put-text-requires
+    enum-known-marks
+    round-requires
     same-length
     returns
     same-length-2
