@@ -1,6 +1,8 @@
 // Four panels on one bus: a round sends each present chip a part of what waits for it, at most so many bus bytes in all.
 mod dealing;
 mod parts;
+mod refusals;
+mod writing;
 
 ghost use mathlib.Core.Path.{_≡_};
 ghost use lib.ListN.{length};
