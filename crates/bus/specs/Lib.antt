@@ -1,2 +1,4 @@
 pub mod Bus
 pub mod HearLaws
+pub mod Places
+pub mod BridgeLaws
