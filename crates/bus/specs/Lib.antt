@@ -6,3 +6,4 @@ pub mod BusDemand
 pub mod BusTheorem
 pub mod Finishing
 pub mod SettlingLaws
+pub mod FinishingLaws
