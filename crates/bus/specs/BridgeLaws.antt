@@ -4,7 +4,7 @@
 use mathlib.Core.Path.{_≡_, refl, sym, ap, ap₂, _∙_, subst}
 use mathlib.Core.Bool.{Bool, true, false, cond, _&&_}
 use mathlib.Core.List.{List, [], _∷_, _++_}
-use Prim.Native.Nat.{ℕ, _+_, _≤_, _<_}
+use Prim.Native.Nat.{ℕ, _≤_, _<_}
 use native.Mathlib.Omega.{arith}
 use borrow.Author.Tests.{eq-eqb, eqb-true}
 use lib.Dec.{eqb}
@@ -25,12 +25,12 @@ use Rattle.rounds.specs.DealLaws.{Takes, round-takes, roundRoom, part-is, four-
 use Rattle.history.specs.declared.World.{World}
 use Rattle.history.specs.Ledger.{Told, entries}
 use Rattle.history.specs.Step.{stepOf, sentTo, partStep}
-use Rattle.history.specs.History.{Event, call, part, eventStep, run, tell, told}
+use Rattle.history.specs.History.{Event, call, part, run, tell, told}
 use Rattle.history.specs.WorldLaws.{worldOf, Holds, start-holds, chip-sound, run-holds, run-append, told-append}
 use Rattle.history.specs.Theorem.{opened}
 use Rattle.bus.specs.Bus.{hostsOf, onBus, accepts, roundWorld, BusCall, plain, round, busStep, busRun, busTell, busTold, starts, panelsAfter, ledgerAt}
 use Rattle.bus.specs.HearLaws.{feed-round, feed-none}
-use Rattle.bus.specs.Places.{eventsOf, eventsAt, Opened, OwnEvents, EachPlace}
+use Rattle.bus.specs.Places.{eventsOf, eventsAt, Opened, EachPlace}
 
 -- ---- One place and the list of a round
 

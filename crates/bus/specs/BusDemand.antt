@@ -6,7 +6,7 @@ use mathlib.Core.Bool.{Bool, true}
 use mathlib.Core.List.{List, [], _∷_, _++_}
 use Prim.Native.Nat.{ℕ, _≤_, _<_}
 use Rattle.map.specs.Images.{resetImage}
-use Rattle.burst.specs.Burst.{Burst, nOf, tOf, transactions}
+use Rattle.burst.specs.Burst.{nOf, tOf, transactions}
 use Rattle.plan.specs.Lists.{All}
 use Rattle.plan.specs.Portion.{portion, Begins}
 use Rattle.calls.specs.declared.Request.the-variants.{Update}
@@ -72,7 +72,8 @@ module _ (m b p : ℕ → ℕ) where
   pub record BusDemand3 (calls : List BusCall) : Type 0 where
     -- each place is owed all of demand 3 for its own events: a plain call at it, and its part of each accepted round that it is in
     pub each : (k : ℕ) → k < 4 → Demand3 (m k) (b k) (p k) (resetImage (m k)) (starts m b p k) (placeEvents m b p k calls)
-    -- demand 3: "no update names an address outside the member's writable ones": no accepted Update of any place, wherever it stands
+    -- demand 3: "no update names an address outside the member's writable ones", those that may be written (`bus-may-write` of BusTheorem): no
+    -- accepted Update of any place, wherever it stands
     pub names : (k : ℕ) → k < 4 → (before behind : List BusCall) (buffer : List ℕ) (n t : ℕ) → UpdatesAt m b p k calls before behind buffer n t →
         AllAllowed (b k) (p k) (panelsAfter m b p before k .host .header) (transactions (updateList (panelsAfter m b p before k) buffer n t))
     -- what is owed of each accepted round, wherever it stands

@@ -1,23 +1,24 @@
 -- Demand 3 for four places is met: `bus-whole-lists`.
 -- Assumes nothing.
-use mathlib.Core.Path.{_≡_, refl, sym, ap, ap₂, _∙_, subst}
+use mathlib.Core.Path.{_≡_, refl, sym, ap, _∙_, subst}
 use mathlib.Core.Bool.{Bool, true, false, cond}
 use mathlib.Core.List.{List, [], _∷_, _++_, map}
-use Prim.Native.Nat.{ℕ, zero, suc, _+_, _*_, _≤_, _<_}
+use Prim.Native.Nat.{ℕ, suc, _+_, _*_, _<_}
 use native.Mathlib.Nat.{add-zero}
 use native.Mathlib.Omega.{arith}
 use borrow.Author.Tests.{eq-eqb}
 use lib.ListN.{length, getD, take, drop}
 use lib.Seq.{take-append-seam}
 use Rattle.map.specs.Refusals.{opens}
+use Rattle.map.specs.Map.{writableOf}
 use Rattle.map.specs.Images.{resetImage}
 use Rattle.burst.specs.Burst.{Burst, nOf, tOf, transactions, transactionOf}
 use Rattle.plan.specs.Lists.{All, all-append}
 use Rattle.plan.specs.Portion.{portion, Begins}
 use Rattle.plan.specs.PortionLaws.{portion-begins, portion-empty}
-use Rattle.host.specs.declared.Header.{Header}
-use Rattle.host.specs.Record.{headerOf}
 use Rattle.calls.specs.declared.Request.the-variants.{Update}
+use Rattle.host.specs.declared.Header.{Header}
+use Rattle.host.specs.Record.{headerOf, mayWrite}
 use Rattle.update.specs.declared.ListAnswer.{ListAnswer}
 use Rattle.update.specs.declared.ListAnswer.the-variants.{Listed}
 use Rattle.update.specs.Update.{listNumbers, isListed, over, writesOf}
@@ -31,11 +32,11 @@ use Rattle.history.specs.LedgerLaws.{entries-append}
 use Rattle.history.specs.Step.{listIn, stepOf}
 use Rattle.history.specs.History.{AllAllowed, UpdateAnswers, updateList, Owed}
 use Rattle.history.specs.RivalLaws.{all-own}
-use Rattle.history.specs.WorldLaws.{begins-sendable}
+use Rattle.history.specs.WorldLaws.{begins-sendable, may-write-after}
 use Rattle.history.specs.Theorem.{listOf, update-owes, finished-values, whole-lists}
 use Rattle.bus.specs.Bus.{hostsOf, accepts, BusCall, round, busStep, busRun, busAnswer, busTell, busTold, starts, panelsAfter, ledgerAt}
-use Rattle.bus.specs.Places.{placeEvents}
-use Rattle.bus.specs.BridgeLaws.{AllHold, bus-holds, all-opened}
+use Rattle.bus.specs.Places.{Opened, placeEvents}
+use Rattle.bus.specs.BridgeLaws.{AllHold, bus-holds, all-opened, each-place}
 use Rattle.bus.specs.BusDemand.{updateAt, UpdatesAt, listOfRound, ForPlace, RoundOwed, BusWholeLists}
 
 -- ---- Lists of bus calls
@@ -195,3 +196,10 @@ bus-whole-lists m b p opened calls =
       finished = λ k l.
           finished-values (m k) (b k) (p k) (o k l) (ledgerAt m b p k calls) (panelsAfter m b p calls k) (bus-holds m b p o calls k l);
     }
+
+-- The addresses that may be written are at each place always its member's writable ones.
+pub bus-may-write : (m b p : ℕ → ℕ) → Opened m b p → (calls : List BusCall) (k : ℕ) → k < 4 → (a : ℕ) →
+    mayWrite (panelsAfter m b p calls k .host .header) a ≡ writableOf (m k) a
+bus-may-write m b p opened calls k l a =
+    ap (λ (x : World). mayWrite (x .host .header) a) (each-place m b p opened calls k l .world)
+    ∙ may-write-after (m k) (b k) (p k) (all-opened m b p opened k l) (placeEvents m b p k calls) a

@@ -27,14 +27,15 @@ use Rattle.update.specs.SendLaws.{host-kept}
 use Rattle.rounds.specs.Round.{shareOf, takes}
 use Rattle.rounds.specs.DealLaws.{roundRoom, room-share, round-takes}
 use Rattle.history.specs.declared.World.{World}
-use Rattle.history.specs.Ledger.{entries}
+use Rattle.history.specs.Ledger.{entries, wantsOn}
 use Rattle.history.specs.Step.{stepOf, partStep}
-use Rattle.history.specs.History.{Call, Event, call, part, eventStep, run, told}
+use Rattle.history.specs.History.{Call, Event, call, part, eventStep, run, told, SameWritable}
 use Rattle.history.specs.WorldLaws.{worldOf, Holds, ready, event-holds, run-holds}
-use Rattle.bus.specs.Bus.{hostsOf, accepts, BusCall, plain, round, busStep, panelsAfter, ledgerAt}
-use Rattle.bus.specs.Places.{eventsOf, eventsAt}
+use Rattle.bus.specs.Bus.{hostsOf, accepts, BusCall, plain, round, busStep, starts, panelsAfter, ledgerAt}
+use Rattle.bus.specs.Places.{eventsOf, eventsAt, Opened}
 use Rattle.bus.specs.BridgeLaws.{AllHold, call-is, call-holds, projected, bus-holds, all-opened}
-use Rattle.bus.specs.Finishing.{differing, differingOf, resets, Still, StillUnder, StillAt, roundsIn, roundsAt, Finishes, Finishing}
+use Rattle.bus.specs.BusTheorem.{bus-append, bus-whole-lists}
+use Rattle.bus.specs.Finishing.{differingOf, resets, Still, StillUnder, StillAt, roundsIn, roundsAt, Finishes, Finishing}
 use Rattle.bus.specs.SettlingLaws.{differing-le, differing-less, differing-some, Right, cut-right, store-kept, store-first, FirstDiffers, update-right, update-first}
 
 -- ---- One panel: its pending list
@@ -285,8 +286,17 @@ module _ (k : ℕ) (l : k < 4) where
         ap (λ (x : World). writesOf (x .host)) (projected m b p o calls s w h k l .world)
         ∙ events-finish (m k) (b k) (p k) (o k l) (eventsAt k w calls) (s k) (w k) (h k l) (calls-go calls s w h q) (omega (arith, parts-at calls w))
 
--- Each chip finishes.
+-- Each chip is finished after as many rounds as it had differing registers.
 pub finishing : Finishing
 finishing m b p opened before calls k l =
     let o : (j : ℕ) → j < 4 → opens (m j) (b j) (p j) ≡ true = all-opened m b p opened in
     finishes k l m b p o calls (λ j. ledgerAt m b p j before) (panelsAfter m b p before) (bus-holds m b p o before)
+
+-- So a chip that is wanted on then holds the ledger: "the register values are owed once a chip wanted on is finished".
+pub finishing-values : (m b p : ℕ → ℕ) → Opened m b p → (before calls : List BusCall) (k : ℕ) → k < 4 →
+    StillAt k (panelsAfter m b p before) calls → differingOf (panelsAfter m b p before k .host) ≤ roundsAt k (panelsAfter m b p before) calls →
+    wantsOn (ledgerAt m b p k (before ++ calls)) ≡ true →
+    SameWritable (m k) (panelsAfter m b p (before ++ calls) k .chip .registers) (ledgerAt m b p k (before ++ calls))
+finishing-values m b p opened before calls k l q few =
+    bus-whole-lists m b p opened (before ++ calls) .finished k l
+    (ap (λ (x : World). writesOf (x .host)) (bus-append before calls (starts m b p) k) ∙ finishing m b p opened before calls k l q few)
