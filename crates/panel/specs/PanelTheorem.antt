@@ -5,18 +5,21 @@ use mathlib.Core.Path.{_≡_, refl, sym, ap, ap₂, _∙_, subst}
 use mathlib.Core.Bool.{true}
 use mathlib.Core.List.{List, [], _∷_, map, map-append}
 use Prim.Native.Nat.{ℕ, _≤_}
+use native.Mathlib.Omega.{arith}
 use lib.ListN.{length}
 use Rattle.map.specs.Refusals.{accepted, answerNumber, opens, openAnswer}
 use Rattle.map.specs.Map.{isDot}
 use Rattle.map.specs.Images.{resetImage}
-use Rattle.burst.specs.Burst.{transactions}
+use Rattle.burst.specs.Burst.{Burst, transactions}
 use Rattle.calls.specs.declared.Request.the-variants.{Update}
 use Rattle.host.specs.declared.Header.{Header}
 use Rattle.host.specs.declared.Record.{Record}
 use Rattle.host.specs.Record.{headerOf, recordOf, soundOf, openOf}
 use Rattle.host.specs.SoundLaws.{is-sound}
 use Rattle.update.specs.declared.ListAnswer.{ListAnswer}
+use Rattle.update.specs.declared.ListAnswer.the-variants.{Listed}
 use Rattle.update.specs.Update.{listNumber, sendOf, writesOf, updating, updateOf, updateBuffer}
+use Rattle.update.specs.SendLaws.{answered, answer-of}
 use Rattle.update.specs.BoundLaws.{always-room}
 use Rattle.chip.specs.declared.Chip.{Chip}
 use Rattle.chip.specs.Chip.{atResetOf, feedOf}
@@ -80,6 +83,10 @@ module _ (m b p : ℕ) (c d : World) (h : length (c .chip .registers) ≡ 908) (
 
 -- ---- after any list of calls
 
+no-writes : (xs : List Burst) → length xs ≡ 0 → xs ≡ []
+no-writes [] e = refl
+no-writes (x ∷ xs) e = absurd (omega arith)
+
 -- from the bytes of a world for which the invariant of history holds
 module _ (m b p : ℕ) (so : opens m b p ≡ true) (s : List ℕ) (w : World) (h : Holds m b p s w) where
   -- the bytes are those of the record and the chip after the same calls by value
@@ -125,6 +132,19 @@ module _ (m b p : ℕ) (so : opens m b p ≡ true) (s : List ℕ) (w : World) (h
       room-here : 1174 ≤ length buffer → updateLeaves (panelRun (bytesOf w) calls) buffer n t .answer ≡ 0
       unfolding sendOf
       room-here k = ap (λ (x : ListOutcome). x .answer) left-is ∙ ap listNumber (always-room (world .host) is-so (length buffer) k)
+
+      -- one that answers 0 and stores n = 0 has nothing pending
+      none-here : updateLeaves (panelRun (bytesOf w) calls) buffer n t .answer ≡ 0 → updateLeaves (panelRun (bytesOf w) calls) buffer n t .n ≡ 0 →
+          writesOf (recordIn (panelRun (bytesOf w) calls .host)) ≡ []
+      none-here zero none =
+          let r : Record = world .host in
+          let listed : answer ≡ Listed (nAfter answer n) (tAfter answer t) =
+          zero-stores answer n t (ap (λ (x : ListOutcome). x .answer) (sym left-is) ∙ zero) in
+          let n-is : nAfter answer n ≡ length (writesOf r) =
+          answered r (updating r) refl (length buffer) (nAfter answer n) (tAfter answer t) (sym (answer-of r (updating r) (length buffer)) ∙ listed) .n-is in
+          ap (λ (x : Panel). writesOf (recordIn (x .host))) (run-is calls)
+          ∙ ap writesOf (record-back r (sizes .settings) (sizes .image))
+          ∙ no-writes (writesOf r) (sym n-is ∙ ap (λ (x : ListOutcome). x .n) (sym left-is) ∙ none)
 
   -- ---- an Update that answered 0
 
@@ -177,18 +197,21 @@ module _ (m b p : ℕ) (so : opens m b p ≡ true) (s : List ℕ) (w : World) (h
         (subst (λ (x : Panel). PanelOwed m b p (asked calls) x now found) (sym (run-is before))
         (subst (λ (x : Panel). PanelOwed m b p (asked calls) (bytesOf (world before)) x found) (sym (run-is calls)) owed-bytes)))
 
-  -- a chip with nothing pending, whatever the last call was
-  finished-so : (calls : List PanelCall) → writesOf (recordIn (panelRun (bytesOf w) calls .host)) ≡ [] →
-      wantsOn (entries m s (panelTold (bytesOf w) calls)) ≡ true →
-      SameWritable m (registersIn (panelRun (bytesOf w) calls .chip)) (entries m s (panelTold (bytesOf w) calls))
+  -- ---- a chip with nothing pending, whatever the last call was
+
+  abbrev Finished : List ℕ → Panel → Type 0
+  Finished asks x = writesOf (recordIn (x .host)) ≡ [] → wantsOn asks ≡ true → SameWritable m (registersIn (x .chip)) asks
+
+  finished-bytes : (calls : List PanelCall) → Finished (asked calls) (bytesOf (world calls))
+  finished-bytes calls none on =
+      let same : recordIn (recordBytes (world calls .host)) ≡ world calls .host = record-back (world calls .host) (sizes calls .settings) (sizes calls .image) in
+      subst (λ (x : List ℕ). SameWritable m x (asked calls)) (sym (registers-are (world calls .chip)))
+      (holds-owes m b p so s w h (map eventOf calls) .finished (ap writesOf (sym same) ∙ none) on)
+
+  finished-so : (calls : List PanelCall) → Finished (entries m s (panelTold (bytesOf w) calls)) (panelRun (bytesOf w) calls)
   finished-so calls =
-      subst (λ (x : List ℕ). writesOf (recordIn (panelRun (bytesOf w) calls .host)) ≡ [] → wantsOn x ≡ true → SameWritable m (registersIn (panelRun (bytesOf w) calls .chip)) x)
-      (sym (ledger-is calls))
-      (subst (λ (x : Panel). writesOf (recordIn (x .host)) ≡ [] → wantsOn (asked calls) ≡ true → SameWritable m (registersIn (x .chip)) (asked calls)) (sym (run-is calls))
-      (subst (λ (r : Record). writesOf r ≡ [] → wantsOn (asked calls) ≡ true → SameWritable m (registersIn (chipBytes (world calls .chip))) (asked calls))
-      (sym (record-back (world calls .host) (sizes calls .settings) (sizes calls .image)))
-      (subst (λ (x : List ℕ). writesOf (world calls .host) ≡ [] → wantsOn (asked calls) ≡ true → SameWritable m x (asked calls)) (sym (registers-are (world calls .chip)))
-      (holds-owes m b p so s w h (map eventOf calls) .finished))))
+      subst (λ (x : List ℕ). Finished x (panelRun (bytesOf w) calls)) (sym (ledger-is calls))
+      (subst (Finished (asked calls)) (sym (run-is calls)) (finished-bytes calls))
 
   -- Demand 3 is owed from there
   pub panel-owes : (calls : List PanelCall) → PanelDemand3 m b p s (bytesOf w) calls
@@ -243,6 +266,13 @@ module _ (m b p : ℕ) (memory : Panel) (o : PanelOpened m b p memory) where
         ap (λ (x : Panel). updateLeaves (panelRun x calls) buffer n t .answer) start-bytes
         ∙ room-here m b p takes (resetImage m) (start m b p) begins calls buffer n t k
 
+    -- and a chip is finished where one would answer 0 and store n = 0: the premise of `finished`
+    pub none-pending : (buffer : List ℕ) (n t : ℕ) → updateLeaves (panelAfter m b p memory calls) buffer n t .answer ≡ 0 →
+        updateLeaves (panelAfter m b p memory calls) buffer n t .n ≡ 0 → writesOf (recordIn (panelAfter m b p memory calls .host)) ≡ []
+    none-pending buffer n t =
+        subst (λ (x : Panel). updateLeaves (panelRun x calls) buffer n t .answer ≡ 0 → updateLeaves (panelRun x calls) buffer n t .n ≡ 0 →
+        writesOf (recordIn (panelRun x calls .host)) ≡ []) (sym start-bytes) (none-here m b p takes (resetImage m) (start m b p) begins calls buffer n t)
+
 -- Demand 3 for a C program
 pub panel-whole-lists : PanelWholeLists
 panel-whole-lists m b p memory o calls =
@@ -262,3 +292,10 @@ pub no-lamp-stale : (m b p : ℕ) (memory : Panel) → PanelOpened m b p memory 
     PanelUpdates (panelStart m b p memory) calls before [] buffer n t needed → wantsOn (panelLedger m b p memory calls) ≡ true → (l k : ℕ) → isDot m l k ≡ true →
     SameLamp (registersIn (panelAfter m b p memory calls .chip)) (panelLedger m b p memory calls) l k
 no-lamp-stale m b p memory o calls = lamps-owed m b p (resetImage m) (panelStart m b p memory) calls (panel-whole-lists m b p memory o calls)
+
+-- Nor is one of a chip that is finished, whatever the last call was.
+pub finished-lamps : (m b p : ℕ) (memory : Panel) → PanelOpened m b p memory → (calls : List PanelCall) →
+    writesOf (recordIn (panelAfter m b p memory calls .host)) ≡ [] → wantsOn (panelLedger m b p memory calls) ≡ true → (l k : ℕ) → isDot m l k ≡ true →
+    SameLamp (registersIn (panelAfter m b p memory calls .chip)) (panelLedger m b p memory calls) l k
+finished-lamps m b p memory o calls none on =
+    same-lamp m (registersIn (panelAfter m b p memory calls .chip)) (panelLedger m b p memory calls) (panel-whole-lists m b p memory o calls .finished none on)
