@@ -1,6 +1,7 @@
 -- Demand 3 for a C program, a claim about whole lists of calls of include/lp586x.h: document 01, "The ledger and whole lists". m, b
 -- and p are the member, bus and pins that lp586x_open and lp586x_chip_at_reset were given. It follows specs/History.antt of the crate
--- history name by name: a world is here a panel, a call answers a number, and what it says of a chip is said of the chip's bytes.
+-- history name by name: a world is here a panel, an event is a call, which answers a number, and what it says of a chip is said of the
+-- chip's bytes. It has no parts: lp586x_round is a call on four records.
 -- Assumes nothing.
 use mathlib.Core.Path.{_≡_}
 use mathlib.Core.Bool.{true}

@@ -1,5 +1,5 @@
 -- Demand 3 is met for a C program: `panel-whole-lists`, from `holds-owes` of the crate history. `after-bytes` says that the bytes
--- after any list of calls are those of the record and chip after the same calls by value.
+-- after any list of calls are those of the record and chip after the same calls by value, and `none-pending` when a chip is finished.
 -- Assumes nothing.
 use mathlib.Core.Path.{_≡_, refl, sym, ap, ap₂, _∙_, subst}
 use mathlib.Core.Bool.{true}
