@@ -120,8 +120,8 @@ module _ (m b p : ℕ) where
     -- demand 3: "and if the last call is an accepted update"
     pub last : (before : List PanelCall) (buffer : List ℕ) (n t needed : ℕ) → PanelUpdates w calls before [] buffer n t needed →
         PanelOwed (entries m s (panelTold w calls)) (panelRun w before) (panelRun w calls) (updateLeaves (panelRun w before) buffer n t)
-    -- Q-3: "but the register values are owed once a chip wanted on is finished", whatever the last call was. "A chip is finished when its
-    -- pending list is empty."
+    -- Q-3 of document 02: "but the register values are owed once a chip wanted on is finished", whatever the last call was. "A chip is finished
+    -- when its pending list is empty."
     pub finished : writesOf (recordIn (panelRun w calls .host)) ≡ [] → wantsOn (entries m s (panelTold w calls)) ≡ true →
         SameWritable m (registersIn (panelRun w calls .chip)) (entries m s (panelTold w calls))
 
