@@ -3,3 +3,4 @@ pub mod Waiting
 pub mod Portions
 pub mod Putting
 pub mod Joining
+pub mod Accepting

@@ -22,7 +22,7 @@ use Rattle.update.specs.Update.{writesOf}
 use Rattle.rounds.specs.declared.Headers.{Headers}
 use Rattle.rounds.specs.declared.dealing.Firsts.{Firsts}
 use Rattle.rounds.specs.declared.dealing.Dealt.{Dealt}
-use Rattle.rounds.specs.Round.{countAll, partAt, leastLimit, mostLimit, everyPlace, waiting, roundList, roundParts, presentSound, presentPlaced, atPlace}
+use Rattle.rounds.specs.Round.{countAll, partAt, leastLimit, mostLimit, everyPlace, waiting, roundList, roundParts, roundRecord, presentSound, presentPlaced, atPlace}
 
 -- ---- Four records by their parts
 
@@ -69,11 +69,15 @@ pub record FirstAre (share : ℕ) (present : ℕ → Bool) (records : ℕ → Re
   pub third-is : x .third ≡ busBytes (portion share (waiting present records 2))
   pub fourth-is : x .fourth ≡ busBytes (portion share (waiting present records 3))
 
+-- t
+abbrev pub dealtTotal : Dealt → ℕ
+dealtTotal x = x .first + x .second + x .third + x .fourth
+
 -- the number of the round's writes, and the bus bytes of the final portions
 pub record DealtAre (limit : ℕ) (present : ℕ → Bool) (records : ℕ → Record) (x : Dealt) : Type 0 where
   pub writes-are : x .writes ≡ countAll (roundParts present records limit)
-  pub few : 3 * x .writes ≤ x .first + x .second + x .third + x .fourth
-  pub most : x .first + x .second + x .third + x .fourth ≤ limit
+  pub few : 3 * x .writes ≤ dealtTotal x
+  pub most : dealtTotal x ≤ limit
   pub first-is : x .first ≡ busBytes (partAt (roundParts present records limit) 0)
   pub second-is : x .second ≡ busBytes (partAt (roundParts present records limit) 1)
   pub third-is : x .third ≡ busBytes (partAt (roundParts present records limit) 2)
@@ -101,3 +105,8 @@ pub record RoundPut (parts : List (List Burst)) (buffer after m0 n0 m1 n1 m2 n2 
   pub second-taken : n1 ≡ storeAll (partAt parts 1) m1
   pub third-taken : n2 ≡ storeAll (partAt parts 2) m2
   pub fourth-taken : n3 ≡ storeAll (partAt parts 3) m3
+
+-- copies of the chip images become what the round leaves of the records
+abbrev pub ImagesAfter : (ℕ → Bool) → (ℕ → Record) → ℕ → ℕ → (ℕ → List ℕ) → (ℕ → List ℕ) → Type 0
+ImagesAfter present records limit size copies after =
+    (k : ℕ) → k < 4 → copies k ≡ records k .image → after k ≡ roundRecord present records limit size k .image

@@ -13,12 +13,15 @@ use crate::parts::part_size;
 use host::Header;
 use writes::Count;
 
+// "A share is B / 4, whole."
+const PLACES: usize = 4;
+
 // The bus bytes of the parts of the four places within their shares.
-pub(crate) struct Firsts {
-    pub(crate) first: usize,
-    pub(crate) second: usize,
-    pub(crate) third: usize,
-    pub(crate) fourth: usize,
+struct Firsts {
+    first: usize,
+    second: usize,
+    third: usize,
+    fourth: usize,
 }
 
 // The number of all writes, and the bus bytes of the parts of the four places.
@@ -85,7 +88,7 @@ fn given_at<'a>(
 }
 
 // "First each chip's portion within its share is found."
-pub(crate) fn first_sizes<'a>(
+fn first_sizes<'a>(
     kinds: &[u8],
     headers: Headers,
     present: Present,
@@ -130,7 +133,7 @@ fn left_over(limit: usize, firsts: Firsts) -> usize
 }
 
 // "What B has left over then goes round in pin order"
-pub(crate) fn deal<'a>(
+fn deal<'a>(
     kinds: &[u8],
     headers: Headers,
     present: Present,
@@ -168,4 +171,33 @@ pub(crate) fn deal<'a>(
         third: c.size.bytes,
         fourth: d.size.bytes,
     }
+}
+
+// Both passes.
+pub(crate) fn deal_out<'a>(
+    kinds: &[u8],
+    headers: Headers,
+    present: Present,
+    limit: usize,
+    s0: &'a [u8],
+    i0: &'a [u8],
+    s1: &'a [u8],
+    i1: &'a [u8],
+    s2: &'a [u8],
+    i2: &'a [u8],
+    s3: &'a [u8],
+    i3: &'a [u8],
+) -> Dealt
+    requires { ⌜
+        AllWait (now kinds) (presentAt present) (recordsOf headers (now s0) (now i0) (now s1) (now i1) (now s2) (now i2) (now s3) (now i3))
+        × (limit ≤ 4096)
+        ⌝ }
+    ensures { λ r. ⌜
+        DealtAre limit (presentAt present)
+        (recordsOf headers (now (s0 .entry)) (now (i0 .entry)) (now (s1 .entry)) (now (i1 .entry)) (now (s2 .entry)) (now (i2 .entry)) (now (s3 .entry)) (now (i3 .entry)))
+        r
+        ⌝ }
+{
+    let firsts = first_sizes(kinds, headers, present, limit / PLACES, s0, i0, s1, i1, s2, i2, s3, i3);
+    deal(kinds, headers, present, firsts, limit, s0, i0, s1, i1, s2, i2, s3, i3)
 }
