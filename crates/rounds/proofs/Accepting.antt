@@ -16,17 +16,22 @@ use Rattle.map.specs.KindTable.{kindTable}
 use Rattle.burst.specs.Burst.{Burst, busBytes}
 use Rattle.plan.specs.Update.{storeAll}
 use Rattle.host.specs.declared.Record.{Record}
+use Rattle.host.specs.Record.{recordOf}
 use Rattle.host.specs.SoundLaws.{sound-is}
 use Rattle.writes.specs.WrittenLaws.{sets-front}
 use Rattle.update.specs.declared.ListAnswer.{ListAnswer}
 use Rattle.update.specs.declared.ListAnswer.the-variants.{Listed, Refused}
 use Rattle.update.specs.Update.{isListed, over}
 use Rattle.rounds.specs.declared.dealing.Dealt.{Dealt}
-use Rattle.rounds.specs.Round.{countAll, bytesAll, roundSize, roundList, partAt, leastLimit, mostLimit, everyPlace, takes, roundParts, presentSound, presentPlaced, roundAnswer, roundRecord, roundBuffer, atPlace}
+use Rattle.rounds.specs.declared.Headers.{Headers}
+use Rattle.rounds.specs.declared.Present.{Present}
+use Rattle.rounds.specs.declared.Records.{Records}
+use Rattle.rounds.specs.declared.Rounded.{Rounded}
+use Rattle.rounds.specs.Round.{countAll, bytesAll, roundSize, roundList, partAt, leastLimit, mostLimit, everyPlace, takes, roundParts, presentSound, presentPlaced, roundAnswer, roundRecord, roundBuffer, roundOf, atPlace, presentAt, recordAt}
 use Rattle.rounds.specs.ListLaws.{round-length}
 use Rattle.rounds.specs.DealLaws.{Takes, round-takes, part-is, roundRoom}
 use Rattle.rounds.specs.AbsentLaws.{refused-kept, refused-buffer}
-use Rattle.rounds.specs.Dealing.{AllWait, AllPlaced, DealtAre, dealtTotal, roundRefusal, RoundPut, ImagesAfter}
+use Rattle.rounds.specs.Dealing.{AllWait, AllPlaced, DealtAre, dealtTotal, roundRefusal, RoundPut, ImagesAfter, recordsOf}
 use Rattle.rounds.proofs.Joining.{bytes-are}
 use Rattle.rounds.proofs.Shares.{absent-part}
 
@@ -144,4 +149,75 @@ module _ (present : ℕ → Bool) (records : ℕ → Record) (limit : ℕ) where
     listed-leaves = (
       p .written ∙ rw e (sets-front (roundList parts) buffer fits),
       λ k h c. taken k h ∙ ap (storeAll (partAt parts k)) c ∙ image k h,
+    )
+
+-- ---- Four records by value
+
+-- a round changes the image of a record alone
+image-alone : (present : ℕ → Bool) (records : ℕ → Record) (limit size k : ℕ) →
+    recordOf (records k .header) (records k .settings) (roundRecord present records limit size k .image) ≡ roundRecord present records limit size k
+unfolding roundRecord
+image-alone present records limit size k = go (isListed (roundAnswer present records limit size) && present k)
+  where
+    next : Record
+    next = takes (records k) (partAt (roundParts present records limit) k)
+
+    go : (b : Bool) → recordOf (records k .header) (records k .settings) (cond b next (records k) .image) ≡ cond b next (records k)
+    go true = refl
+    go false = refl
+
+-- by their parts they are the same
+abbrev headersOf : Records → Headers
+headersOf r = record { first = r .first .header; second = r .second .header; third = r .third .header; fourth = r .fourth .header }
+
+abbrev inParts : Records → Headers → ℕ → Record
+inParts r h =
+    recordsOf h (r .first .settings) (r .first .image) (r .second .settings) (r .second .image) (r .third .settings) (r .third .image)
+    (r .fourth .settings) (r .fourth .image)
+
+abbrev imagesOf : Records → ℕ → List ℕ
+imagesOf r = atPlace (r .first .image) (r .second .image) (r .third .image) (r .fourth .image)
+
+pub round-by-value : (r : Records) (present : Present) (limit : ℕ) (h : Headers) → h ≡ headersOf r → (buffer after : List ℕ) (answer : ListAnswer)
+    (n0 n1 n2 n3 : List ℕ) (x0 x1 x2 x3 : Record) →
+    (answer ≡ roundAnswer (presentAt present) (inParts r h) limit (length buffer))
+    × ((after ≡ roundBuffer (presentAt present) (inParts r h) limit buffer)
+    × ImagesAfter (presentAt present) (inParts r h) limit (length buffer) (imagesOf r) (atPlace n0 n1 n2 n3)) →
+    x0 ≡ recordOf (r .first .header) (r .first .settings) n0 → x1 ≡ recordOf (r .second .header) (r .second .settings) n1 →
+    x2 ≡ recordOf (r .third .header) (r .third .settings) n2 → x3 ≡ recordOf (r .fourth .header) (r .fourth .settings) n3 →
+    (record { answer = answer; records = record { first = x0; second = x1; third = x2; fourth = x3 } } ≡ roundOf r present limit (length buffer))
+    × (after ≡ roundBuffer (presentAt present) (recordAt r) limit buffer)
+unfolding roundOf
+round-by-value r present limit h e buffer after answer n0 n1 n2 n3 x0 x1 x2 x3 p e0 e1 e2 e3 = go (subst P e p)
+  where
+    P : Headers → Type 0
+    P h =
+        (answer ≡ roundAnswer (presentAt present) (inParts r h) limit (length buffer))
+        × ((after ≡ roundBuffer (presentAt present) (inParts r h) limit buffer)
+        × ImagesAfter (presentAt present) (inParts r h) limit (length buffer) (imagesOf r) (atPlace n0 n1 n2 n3))
+
+    rounded : ListAnswer → Record → Record → Record → Record → Rounded
+    rounded a u v w z = record { answer = a; records = record { first = u; second = v; third = w; fourth = z } }
+
+    listed : ListAnswer
+    listed = roundAnswer (presentAt present) (recordAt r) limit (length buffer)
+
+    left : ℕ → Record
+    left k = roundRecord (presentAt present) (recordAt r) limit (length buffer) k
+
+    one : P (headersOf r) → (k : ℕ) → k < 4 → imagesOf r k ≡ recordAt r k .image → (x : Record) →
+        x ≡ recordOf (recordAt r k .header) (recordAt r k .settings) (atPlace n0 n1 n2 n3 k) → x ≡ left k
+    one q k l c x f =
+        f ∙ ap (recordOf (recordAt r k .header) (recordAt r k .settings)) (q .1 .1 k l c) ∙ image-alone (presentAt present) (recordAt r) limit (length buffer) k
+
+    go : P (headersOf r) →
+        (record { answer = answer; records = record { first = x0; second = x1; third = x2; fourth = x3 } } ≡ roundOf r present limit (length buffer))
+        × (after ≡ roundBuffer (presentAt present) (recordAt r) limit buffer)
+    go q = (
+      ap (λ (a : ListAnswer). rounded a x0 x1 x2 x3) (q .0)
+          ∙ ap (λ (x : Record). rounded listed x x1 x2 x3) (one q 0 (omega arith) refl x0 e0)
+          ∙ ap (λ (x : Record). rounded listed (left 0) x x2 x3) (one q 1 (omega arith) refl x1 e1)
+          ∙ ap (λ (x : Record). rounded listed (left 0) (left 1) x x3) (one q 2 (omega arith) refl x2 e2)
+          ∙ ap (λ (x : Record). rounded listed (left 0) (left 1) (left 2) x) (one q 3 (omega arith) refl x3 e3),
+      q .1 .0,
     )

@@ -7,6 +7,7 @@ mod writing;
 
 ghost use mathlib.Core.Path.{_≡_};
 ghost use lib.ListN.{length};
+ghost use Rattle.host.specs.Record.{recordOf};
 ghost use Rattle.rounds.specs.Round.{atPlace, presentAt, recordAt, roundAnswer, roundBuffer, roundOf};
 ghost use Rattle.rounds.specs.Dealing.{recordsOf, ImagesAfter};
 use host::Header;
@@ -113,4 +114,71 @@ pub fn round_parts<'a>(
         limit,
     );
     answer
+}
+
+fn headers_of(first: Record, second: Record, third: Record, fourth: Record) -> Headers
+    ensures { λ x. ⌜ x ≡ record { first = first .header; second = second .header; third = third .header; fourth = fourth .header } ⌝ }
+{
+    let h0 = first.header;
+    let h1 = second.header;
+    let h2 = third.header;
+    let h3 = fourth.header;
+    Headers {
+        first: h0,
+        second: h1,
+        third: h2,
+        fourth: h3,
+    }
+}
+
+fn with_image(mut r: Record, image: [u8; 908]) -> Record
+    ensures { λ x. ⌜ x ≡ recordOf (r .header) (r .settings) image ⌝ }
+{
+    r.image = image;
+    r
+}
+
+// A round over four records, any of them marked absent: that is neither checked nor changed. At most `limit` bus bytes are sent, each
+// present chip gets at least what fits a quarter of them, and its chip image takes what it is sent.
+pub fn round(r: Records, present: Present, limit: usize, buffer: &mut [u8]) -> Rounded
+    ensures { λ x. ⌜ x ≡ roundOf r present limit (length (now (buffer .entry))) ⌝ }
+    ensures { λ _. ⌜ now (buffer .exit) ≡ roundBuffer (presentAt present) (recordAt r) limit (now (buffer .entry)) ⌝ }
+{
+    let first = r.first;
+    let second = r.second;
+    let third = r.third;
+    let fourth = r.fourth;
+    let headers = headers_of(first, second, third, fourth);
+    let mut m0 = first.image;
+    let mut m1 = second.image;
+    let mut m2 = third.image;
+    let mut m3 = fourth.image;
+    let answer = round_parts(
+        headers,
+        present,
+        limit,
+        &first.settings,
+        &first.image,
+        &second.settings,
+        &second.image,
+        &third.settings,
+        &third.image,
+        &fourth.settings,
+        &fourth.image,
+        &mut m0,
+        &mut m1,
+        &mut m2,
+        &mut m3,
+        buffer,
+    );
+    let records = Records {
+        first: with_image(first, m0),
+        second: with_image(second, m1),
+        third: with_image(third, m2),
+        fourth: with_image(fourth, m3),
+    };
+    Rounded {
+        answer: answer,
+        records: records,
+    }
 }
