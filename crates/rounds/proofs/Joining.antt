@@ -109,10 +109,12 @@ module _ (present : Bool) (h : Header) (settings old : List ℕ) (index at bytes
         × (taken ≡ storeAll (portion bytes (writesOf (recordOf (matrix .header) settings old))) image)) → Puts present r index at bytes next buffer after image taken
     present-put buffer image next after taken f = (
       omega (arith, f .0, ap length is),
-      (f .1 .0
-          ∙ ap (λ (x : Matrix). putPart buffer index at (map (transactionOf (x .header .bus) (x .header .pins)) (portion bytes (writesOf (recordOf (matrix .header) settings old))))) m
-          ∙ ap (λ (xs : List Burst). putPart buffer index at (map (transactionOf (h .bus) (h .pins)) xs)) is,
-      f .1 .1 ∙ ap (λ (xs : List Burst). storeAll xs image) is),
+      (
+        f .1 .0
+            ∙ ap (λ (x : Matrix). putPart buffer index at (map (transactionOf (x .header .bus) (x .header .pins)) (portion bytes (writesOf (recordOf (matrix .header) settings old))))) m
+            ∙ ap (λ (xs : List Burst). putPart buffer index at (map (transactionOf (h .bus) (h .pins)) xs)) is,
+        f .1 .1 ∙ ap (λ (xs : List Burst). storeAll xs image) is,
+      ),
     )
 
 -- ---- four places

@@ -160,10 +160,42 @@ fn deal<'a>(
         ⌝ }
 {
     let left = left_over(limit, firsts);
-    let a = given_at(kinds, present.first, headers.first, s0, i0, firsts.first, left);
-    let b = given_at(kinds, present.second, headers.second, s1, i1, firsts.second, a.left);
-    let c = given_at(kinds, present.third, headers.third, s2, i2, firsts.third, b.left);
-    let d = given_at(kinds, present.fourth, headers.fourth, s3, i3, firsts.fourth, c.left);
+    let a = given_at(
+        kinds,
+        present.first,
+        headers.first,
+        s0,
+        i0,
+        firsts.first,
+        left,
+    );
+    let b = given_at(
+        kinds,
+        present.second,
+        headers.second,
+        s1,
+        i1,
+        firsts.second,
+        a.left,
+    );
+    let c = given_at(
+        kinds,
+        present.third,
+        headers.third,
+        s2,
+        i2,
+        firsts.third,
+        b.left,
+    );
+    let d = given_at(
+        kinds,
+        present.fourth,
+        headers.fourth,
+        s3,
+        i3,
+        firsts.fourth,
+        c.left,
+    );
     Dealt {
         writes: a.size.writes + b.size.writes + c.size.writes + d.size.writes,
         first: a.size.bytes,
@@ -198,6 +230,33 @@ pub(crate) fn deal_out<'a>(
         r
         ⌝ }
 {
-    let firsts = first_sizes(kinds, headers, present, limit / PLACES, s0, i0, s1, i1, s2, i2, s3, i3);
-    deal(kinds, headers, present, firsts, limit, s0, i0, s1, i1, s2, i2, s3, i3)
+    let firsts = first_sizes(
+        kinds,
+        headers,
+        present,
+        limit / PLACES,
+        s0,
+        i0,
+        s1,
+        i1,
+        s2,
+        i2,
+        s3,
+        i3,
+    );
+    deal(
+        kinds,
+        headers,
+        present,
+        firsts,
+        limit,
+        s0,
+        i0,
+        s1,
+        i1,
+        s2,
+        i2,
+        s3,
+        i3,
+    )
 }

@@ -87,7 +87,19 @@ pub fn round_parts<'a>(
     let kinds = map::kind_table();
     let size = buffer.len();
     let planned = planning::plan(
-        &kinds, headers, present, limit, size, s0, i0, s1, i1, s2, i2, s3, i3,
+        &kinds,
+        headers,
+        present,
+        limit,
+        size,
+        s0,
+        i0,
+        s1,
+        i1,
+        s2,
+        i2,
+        s3,
+        i3,
     );
     let answer = planned.answer;
     if !planning::is_listed(answer) {

@@ -98,7 +98,20 @@ pub(crate) fn plan<'a>(
     let answer = refusals::refusal(headers, present, limit, s0, i0, s1, i1, s2, i2, s3, i3);
     match answer {
         Answer::Accepted => {
-            let dealt = dealing::deal_out(kinds, headers, present, limit, s0, i0, s1, i1, s2, i2, s3, i3);
+            let dealt = dealing::deal_out(
+                kinds,
+                headers,
+                present,
+                limit,
+                s0,
+                i0,
+                s1,
+                i1,
+                s2,
+                i2,
+                s3,
+                i3,
+            );
             Planned {
                 answer: listed(dealt, size),
                 dealt: dealt,

@@ -101,11 +101,55 @@ pub(crate) fn put_round<'a>(
         dealt.first + dealt.second + dealt.third + dealt.fourth,
     );
     let at = 4 + 2 * dealt.writes;
-    let next = put_at(buffer, 0, at, kinds, present.first, headers.first, s0, i0, m0, dealt.first);
+    let next = put_at(
+        buffer,
+        0,
+        at,
+        kinds,
+        present.first,
+        headers.first,
+        s0,
+        i0,
+        m0,
+        dealt.first,
+    );
     let at = at + dealt.first;
-    let next = put_at(buffer, next, at, kinds, present.second, headers.second, s1, i1, m1, dealt.second);
+    let next = put_at(
+        buffer,
+        next,
+        at,
+        kinds,
+        present.second,
+        headers.second,
+        s1,
+        i1,
+        m1,
+        dealt.second,
+    );
     let at = at + dealt.second;
-    let next = put_at(buffer, next, at, kinds, present.third, headers.third, s2, i2, m2, dealt.third);
+    let next = put_at(
+        buffer,
+        next,
+        at,
+        kinds,
+        present.third,
+        headers.third,
+        s2,
+        i2,
+        m2,
+        dealt.third,
+    );
     let at = at + dealt.third;
-    put_at(buffer, next, at, kinds, present.fourth, headers.fourth, s3, i3, m3, dealt.fourth);
+    put_at(
+        buffer,
+        next,
+        at,
+        kinds,
+        present.fourth,
+        headers.fourth,
+        s3,
+        i3,
+        m3,
+        dealt.fourth,
+    );
 }

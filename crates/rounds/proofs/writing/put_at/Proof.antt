@@ -20,8 +20,7 @@ put-writes-requires : tie.Need-put-writes-requires
 put-writes-requires c κs =
     let a = c .before .before .before .before .before .before .before .before .before .args in
     let p = c .before .before .before .before .before .before .before .before .before .pre in
-    let e = not-false (a .present) (c .before .before .before .if1 .left) in
-    (
+    let e = not-false (a .present) (c .before .before .before .if1 .left) in (
       waits-scanned (a .kinds .now) (a .present) (a .header) (a .settings .now) (a .old .now) _ e (c .before .matrix-of .ensures) (p .0),
       p .1,
       p .2,

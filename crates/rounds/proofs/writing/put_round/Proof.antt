@@ -27,8 +27,7 @@ add-at c = search needs
 put-at-requires : tie.Need-put-at-requires
 put-at-requires c κs =
     let p = c .before .before .before .before .before .before .before .before .before .before .before .before .before .before .before .before .before .before .before .before .before .before .before .before .pre in
-    let q = part-counts _ _ _ _ (p .2) in
-    (
+    let q = part-counts _ _ _ _ (p .2) in (
       record { kinds-are = p .0 .kinds-are; sound = p .0 .sound 0 (omega arith) },
       omega (arith, p .2 .most, p .3),
       omega (arith, p .2 .most, p .2 .few, p .3),
@@ -41,8 +40,7 @@ add-at-2 c = let p = c .before .before .before .before .before .before .before .
 put-at-requires-2 : tie.Need-put-at-requires-2
 put-at-requires-2 c κs =
     let p = c .before .before .before .before .before .before .before .before .before .before .before .before .before .before .before .before .before .before .before .before .before .before .before .before .before .before .before .before .before .before .before .before .pre in
-    let q = part-counts _ _ _ _ (p .2) in
-    (
+    let q = part-counts _ _ _ _ (p .2) in (
       record { kinds-are = p .0 .kinds-are; sound = p .0 .sound 1 (omega arith) },
       omega (arith, p .2 .most, p .3),
       omega (arith, p .2 .most, p .2 .few, p .3),
@@ -55,8 +53,7 @@ add-at-3 c = let p = c .before .before .before .before .before .before .before .
 put-at-requires-3 : tie.Need-put-at-requires-3
 put-at-requires-3 c κs =
     let p = c .before .before .before .before .before .before .before .before .before .before .before .before .before .before .before .before .before .before .before .before .before .before .before .before .before .before .before .before .before .before .before .before .before .before .before .before .before .before .before .before .pre in
-    let q = part-counts _ _ _ _ (p .2) in
-    (
+    let q = part-counts _ _ _ _ (p .2) in (
       record { kinds-are = p .0 .kinds-are; sound = p .0 .sound 2 (omega arith) },
       omega (arith, p .2 .most, p .3),
       omega (arith, p .2 .most, p .2 .few, p .3),
@@ -69,8 +66,7 @@ add-at-4 c = let p = c .before .before .before .before .before .before .before .
 put-at-requires-4 : tie.Need-put-at-requires-4
 put-at-requires-4 c κs =
     let p = c .before .before .before .before .before .before .before .before .before .before .before .before .before .before .before .before .before .before .before .before .before .before .before .before .before .before .before .before .before .before .before .before .before .before .before .before .before .before .before .before .before .before .before .before .before .before .before .before .pre in
-    let q = part-counts _ _ _ _ (p .2) in
-    (
+    let q = part-counts _ _ _ _ (p .2) in (
       record { kinds-are = p .0 .kinds-are; sound = p .0 .sound 3 (omega arith) },
       omega (arith, p .2 .most, p .3),
       omega (arith, p .2 .most, p .2 .few, p .3),
