@@ -3,7 +3,8 @@
 //
 // A chip of the bus is on I2C and has its place for its pins. The list of an accepted round is fed to every such chip, present or not: what
 // is for other pins passes by. specs/BusDemand.antt has the claim about whole lists of bus calls, specs/BusTheorem.antt its proof.
-
+mod hearing;
+mod places;
 
 ghost use mathlib.Core.Path.{_≡_};
 ghost use lib.ListN.{length};
@@ -13,7 +14,6 @@ use calls::Request;
 use history::CallAnswer;
 use history::World;
 use rounds::Present;
-use rounds::Records;
 use update::ListAnswer;
 
 // The records and the chips of the four places.
@@ -40,4 +40,52 @@ pub enum BusRequest {
 pub struct BusStepped {
     pub answer: CallAnswer,
     pub panels: Panels,
+}
+
+// A round over the records of the four places. The list that it answers is fed at once to every chip of the bus.
+pub fn round(panels: Panels, present: Present, limit: usize, buffer: &mut [u8]) -> BusRounded
+    ensures { λ r. ⌜ r ≡ roundedOf panels (presentAt present) limit (length (now (buffer .entry))) ⌝ }
+    ensures { λ _. ⌜ now (buffer .exit) ≡ roundBuffer (presentAt present) (hostsOf (worldAt panels)) limit (now (buffer .entry)) ⌝ }
+{
+    let rounded = rounds::round(places::records_in(panels), present, limit, buffer);
+    let answer = rounded.answer;
+    let records = rounded.records;
+    let after = hearing::heard(answer, panels, records, buffer);
+    BusRounded {
+        answer: answer,
+        panels: after,
+    }
+}
+
+// A call at one place.
+fn plain(panels: Panels, place: usize, request: Request, lent: &mut [u8]) -> BusStepped
+    ensures { λ r. ⌜ r ≡ steppedOf panels (callOf (BusRequest.Plain place request) (now (lent .entry))) ⌝ }
+    ensures { λ _. ⌜ now (lent .exit) ≡ busLent (worldAt panels) (callOf (BusRequest.Plain place request) (now (lent .entry))) ⌝ }
+{
+    let stepped = history::step(places::world_at(panels, place), request, lent);
+    let answer = stepped.answer;
+    let world = stepped.world;
+    BusStepped {
+        answer: answer,
+        panels: places::with_world(panels, place, world),
+    }
+}
+
+// One bus call on the panels of the four places. The bytes of a Scene and the buffer of a call that writes a list are lent.
+pub fn step(panels: Panels, request: BusRequest, lent: &mut [u8]) -> BusStepped
+    ensures { λ r. ⌜ r ≡ steppedOf panels (callOf request (now (lent .entry))) ⌝ }
+    ensures { λ _. ⌜ now (lent .exit) ≡ busLent (worldAt panels) (callOf request (now (lent .entry))) ⌝ }
+{
+    match request {
+        BusRequest::Plain { place, request } => plain(panels, place, request, lent),
+        BusRequest::Round { present, limit } => {
+            let rounded = round(panels, present, limit, lent);
+            let answer = rounded.answer;
+            let after = rounded.panels;
+            BusStepped {
+                answer: CallAnswer::List(answer),
+                panels: after,
+            }
+        }
+    }
 }

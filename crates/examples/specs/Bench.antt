@@ -25,14 +25,14 @@ use Rattle.host.specs.SoundLaws.{is-sound, open-sound}
 use Rattle.update.specs.Update.{listSize, over, Sending, sendAnswer, sendBuffer, writesOf, resetting, resetBuffer, clearing, clearBuffer}
 use Rattle.update.specs.SendLaws.{send-listed}
 use Rattle.history.specs.Step.{stepOf}
-use Rattle.history.specs.History.{Call, worldAfter}
+use Rattle.history.specs.History.{Event, call, worldAfter}
 
 -- a setting, with nothing lent
-abbrev setting : Setting → Call
-setting q = record { request = Set q; lent = [] }
+abbrev setting : Setting → Event
+setting q = call (record { request = Set q; lent = [] })
 
 -- "000h = 01h, 001h = 58h, Lamp (0, 2, 40h)"
-abbrev calls : List Call
+abbrev calls : List Event
 calls = setting (Register 0x000 0x01) ∷ setting (Register 0x001 0x58) ∷ setting (Lamp 0 2 0x40) ∷ []
 
 -- the buffer after an Update that follows on these calls

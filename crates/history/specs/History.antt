@@ -1,5 +1,6 @@
--- Demand 3, a claim about whole lists of calls: document 01, "The ledger and whole lists". m, b and p are the member, bus and pins
--- that Open was given. Quotations are of document 01, but for those that are marked as the wording of demand 3 itself or of Q-3, document 02.
+-- Demand 3, a claim about whole lists of calls, and of parts among them: document 01, "The ledger and whole lists", and Q-3 of document 02.
+-- m, b and p are the member, bus and pins that Open was given. Quotations are of document 01, but for those that are marked as the wording
+-- of demand 3 itself or of Q-3.
 -- Assumes nothing.
 use mathlib.Core.Path.{_≡_}
 use mathlib.Core.Bool.{true}
@@ -30,11 +31,13 @@ pub record Call : Type 0 where
   pub request : Request
   pub lent : List ℕ
 
--- Q-3: "Demand 3's list may hold rounds": to one panel a round that it is in is a part, its portion within some number of bytes.
+-- Q-3: "Demand 3's list may hold rounds". To one record and its chip an accepted round with it present is a part, its portion within some
+-- number of bytes. The number is any, so that what a round gives it is among them; any other round is nothing to it.
 pub data Event : Type 0 where
   call : Call → Event
   part : ℕ → Event
 
+-- the record and its chip after one of them
 abbrev pub eventStep : World → Event → World
 eventStep w (call c) = stepOf w (c .request) (c .lent) .world
 eventStep w (part room) = partStep w room
@@ -56,7 +59,7 @@ worldAfter m b p events = run (start m b p) events
 abbrev pub tell : World → Call → Told
 tell w c = toldOf (c .request) (c .lent)
 
--- "the calls in order": of each next one on the world that the last one left. It hears nothing of parts.
+-- "the calls in order": of each next one on the world that the last one left. A part sets nothing, and the ledger hears nothing of it.
 abbrev pub told : World → List Event → List Told
 told w [] = []
 told w (call c ∷ es) = tell w c ∷ told (eventStep w (call c)) es
@@ -129,7 +132,8 @@ module _ (m b p : ℕ) where
     -- demand 3: "no update names an address outside the member's writable ones": no accepted Update, wherever it stands
     pub names : (before behind : List Event) (buffer : List ℕ) (n t : ℕ) → Updates w events before behind buffer n t →
         AllAllowed b p (run w before .host .header) (transactions (updateList (run w before) buffer n t))
-    -- and no part, wherever it stands
+    -- and no part, wherever it stands: its list is the one that the chip hears, since the record keeps the bus and pins that Open was given
+    -- (`header-after` of WorldLaws)
     pub part-names : (before behind : List Event) (room : ℕ) → events ≡ before ++ (part room ∷ behind) →
         AllAllowed b p (run w before .host .header) (transactions (encode b p (partOf (run w before) room)))
     -- demand 3: "and if the last call is an accepted update"; Q-3: "the fewest-bytes rule then covers plain updates only"

@@ -1,4 +1,5 @@
--- Demand 3 in the words of those who watch the lamps: after an accepted Update with chip enable wanted on no lamp is stale.
+-- Demand 3 in the words of those who watch the lamps: with chip enable wanted on no lamp is stale after an accepted Update, nor once the
+-- chip is finished.
 -- Assumes nothing.
 use mathlib.Core.Path.{_≡_, refl, ap, ap₂}
 use mathlib.Core.Bool.{true}

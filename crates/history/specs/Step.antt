@@ -1,6 +1,6 @@
 -- One call on a world, by the promises of the real calls and of Feed: document 01, "The ledger and whole lists". A world is a host's
--- record, `host`, and its chip; `lent` is the bytes of a scene, or the buffer of a call that writes a list. And what a round of document
--- 02, Q-3, is to one world.
+-- record, `host`, and its chip; `lent` is the bytes of a scene, or the buffer of a call that writes a list. Behind the calls stands a part,
+-- what a round of document 02, Q-3, does to one world.
 -- Assumes nothing.
 use mathlib.Core.List.{List}
 use Prim.Native.Nat.{ℕ, _+_, _*_, _≤_}
@@ -91,18 +91,19 @@ stepOf w Update lent = sendStep w (updating (w .host)) lent
 
 -- ---- A part: document 02, Q-3
 
--- "A chip's portion within some number of bytes is the longest beginning of its pending list, Update's, that fits" (`portion-longest` of plan)
+-- "A chip's portion within some number of bytes is the longest beginning of its pending list, Update's, that fits" (plan: `portion-begins`,
+-- `portion-bytes` and `portion-longest`)
 abbrev pub partOf : World → ℕ → List Burst
 partOf w room = portion room (writesOf (w .host))
 
--- these writes go to the chip, in a list for the record's bus and pins; "each chip image takes what its chip is sent"
+-- the chip hears these writes, in a list for the record's bus and pins; "each chip image takes what its chip is sent"
 abbrev pub sentTo : World → List Burst → World
 sentTo w xs = record {
   host = recordOf (w .host .header) (w .host .settings) (storeAll xs (w .host .image));
   chip = feedOf (w .chip) (encode (w .host .header .bus) (w .host .header .pins) xs) .chip;
 }
 
--- so does its portion within `room` bytes
+-- a part: those of its portion within `room` bytes
 abbrev pub partStep : World → ℕ → World
 partStep w room = sentTo w (partOf w room)
 

@@ -184,7 +184,7 @@ module _ (m b p : ℕ) (o : opens m b p ≡ true) (s : List ℕ) (w : World) (h 
   update-ends buffer n t =
       subst (λ (x : World). UpdateAnswers x buffer n t → writesOf (stepOf x Update buffer .world .host) ≡ []) (sym (h .is)) (ended-here buffer n t)
 
-  -- "the register values are owed once a chip wanted on is finished"
+  -- Q-3: "the register values are owed once a chip wanted on is finished"
   pub finished-values : writesOf (w .host) ≡ [] → wantsOn s ≡ true → SameWritable m (w .chip .registers) s
   finished-values =
       subst (λ (x : World). writesOf (x .host) ≡ [] → wantsOn s ≡ true → SameWritable m (x .chip .registers) s) (sym (h .is)) finished-here

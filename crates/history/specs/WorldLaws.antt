@@ -351,6 +351,7 @@ module _ (m b p : ℕ) (o : opens m b p ≡ true) where
 
 -- ---- lists of events
 
+-- the calls among them
 abbrev pub callsIn : List Event → List Call
 callsIn [] = []
 callsIn (call c ∷ es) = c ∷ callsIn es

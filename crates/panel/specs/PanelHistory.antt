@@ -1,6 +1,7 @@
 -- Demand 3 for a C program, a claim about whole lists of calls of include/lp586x.h: document 01, "The ledger and whole lists". m, b
 -- and p are the member, bus and pins that lp586x_open and lp586x_chip_at_reset were given. It follows specs/History.antt of the crate
--- history name by name: a world is here a panel, a call answers a number, and what it says of a chip is said of the chip's bytes.
+-- history name by name: a world is here a panel, an event is a call, which answers a number, and what it says of a chip is said of the
+-- chip's bytes. It has no parts: lp586x_round is a call on four records.
 -- Assumes nothing.
 use mathlib.Core.Path.{_≡_}
 use mathlib.Core.Bool.{true}
@@ -11,10 +12,11 @@ use Rattle.map.specs.Images.{resetImage}
 use Rattle.burst.specs.Burst.{nOf, tOf, transactions}
 use Rattle.calls.specs.declared.Request.{Request}
 use Rattle.calls.specs.declared.Request.the-variants.{Update}
+use Rattle.update.specs.Update.{writesOf}
 use Rattle.history.specs.Ledger.{Told, toldOf, entries, ledger, wantsOn}
 use Rattle.history.specs.Step.{listIn}
-use Rattle.history.specs.History.{Call, SameWritable, AllAllowed}
-use Rattle.capi.specs.Capi.{headerIn, ListOutcome}
+use Rattle.history.specs.History.{Event, call, SameWritable, AllAllowed}
+use Rattle.capi.specs.Capi.{headerIn, recordIn, ListOutcome}
 use Rattle.capi.specs.Calls.{openCall, updateCall, chipAtResetCall, chipFeedCall}
 use Rattle.panel.specs.PanelStep.{Panel, panelOf, panelStep}
 
@@ -49,8 +51,8 @@ abbrev pub panelAfter : ℕ → ℕ → ℕ → Panel → List PanelCall → Pan
 panelAfter m b p memory calls = panelRun (panelStart m b p memory) calls
 
 -- the same call on a record by value
-abbrev pub callOf : PanelCall → Call
-callOf c = record { request = c .request; lent = c .lent }
+abbrev pub eventOf : PanelCall → Event
+eventOf c = call (record { request = c .request; lent = c .lent })
 
 -- What the ledger is told of a call on the panel w: "all their arguments but the record, and never an answer."
 abbrev pub panelTell : Panel → PanelCall → Told
@@ -118,6 +120,10 @@ module _ (m b p : ℕ) where
     -- demand 3: "and if the last call is an accepted update"
     pub last : (before : List PanelCall) (buffer : List ℕ) (n t needed : ℕ) → PanelUpdates w calls before [] buffer n t needed →
         PanelOwed (entries m s (panelTold w calls)) (panelRun w before) (panelRun w calls) (updateLeaves (panelRun w before) buffer n t)
+    -- Q-3 of document 02: "but the register values are owed once a chip wanted on is finished", whatever the last call was. "A chip is finished
+    -- when its pending list is empty."
+    pub finished : writesOf (recordIn (panelRun w calls .host)) ≡ [] → wantsOn (entries m s (panelTold w calls)) ≡ true →
+        SameWritable m (registersIn (panelRun w calls .chip)) (entries m s (panelTold w calls))
 
 -- for every list of calls after every lp586x_open and lp586x_chip_at_reset that answer 0; the ledger's bytes "begin at that member's
 -- reset values."

@@ -6,7 +6,7 @@ use mathlib.Core.Bool.{true, false≢true}
 use mathlib.Core.List.{List, [], _∷_, map}
 use Prim.Native.Nat.{ℕ}
 use borrow.Author.Tests.{ne-eqb}
-use lib.ListN.{length, getD}
+use lib.ListN.{length}
 use Rattle.map.specs.Refusals.{numbersOf, opens}
 use Rattle.calls.specs.declared.Request.{Request}
 use Rattle.calls.specs.declared.Request.the-variants.{Set, Reset, PowerLost, Update}
@@ -17,16 +17,16 @@ use Rattle.update.specs.declared.ListAnswer.the-variants.{Listed, Short, Refuse
 use Rattle.update.specs.Update.{listNumber, Sending, sendOf, sendBuffer, updating, resetting}
 use Rattle.chip.specs.Chip.{feedOf}
 use Rattle.history.specs.declared.World.{World}
-use Rattle.history.specs.Ledger.{Told, toldOf, entered}
+use Rattle.history.specs.Ledger.{Told, toldOf, entries}
 use Rattle.history.specs.Step.{callNumbers, listIn, fedBy, sendStep, stepOf}
-use Rattle.history.specs.History.{run, tell, told}
-use Rattle.history.specs.WorldLaws.{Holds, step-holds}
+use Rattle.history.specs.History.{run, told}
+use Rattle.history.specs.WorldLaws.{Holds, event-holds}
 use Rattle.capi.specs.Capi.{recordBytes, chipBytes, stored, nAfter, tAfter, Outcome, ListOutcome}
 use Rattle.capi.specs.Calls.{sendCall, updateNeeded, chipFeedCall}
 use Rattle.capi.specs.CapiLaws.{zero-listed}
 use Rattle.capi.specs.CallLaws.{listOutcomeOf, setting-of-call, power-lost-call, send-call, feed-call, chip-power-lost-call}
 use Rattle.panel.specs.PanelStep.{Panel, panelOf, chipFed, panelList, panelStep}
-use Rattle.panel.specs.PanelHistory.{PanelCall, panelRun, panelTold, callOf}
+use Rattle.panel.specs.PanelHistory.{PanelCall, panelRun, panelTold, eventOf}
 
 -- the bytes of a world
 abbrev pub bytesOf : World → Panel
@@ -103,16 +103,16 @@ module _ (m b p : ℕ) (o : opens m b p ≡ true) where
     registers = ap (λ (x : World). length (x .chip .registers)) (h .is) ∙ h .registers-fit .size;
   }
 
-  pub run-bytes : (calls : List PanelCall) (s : List ℕ) (w : World) → Holds m b p s w → panelRun (bytesOf w) calls ≡ bytesOf (run w (map callOf calls))
+  pub run-bytes : (calls : List PanelCall) (s : List ℕ) (w : World) → Holds m b p s w → panelRun (bytesOf w) calls ≡ bytesOf (run w (map eventOf calls))
   run-bytes [] s w h = refl
   run-bytes (c ∷ cs) s w h =
       ap (λ (x : Panel). panelRun x cs) (step-bytes w (whole s w h) (c .lent) (c .n) (c .t) (c .needed) (c .request))
-      ∙ run-bytes cs (entered m s (tell w (callOf c))) (stepOf w (c .request) (c .lent) .world) (step-holds m b p o s w h (callOf c))
+      ∙ run-bytes cs (entries m s (told w (eventOf c ∷ []))) (stepOf w (c .request) (c .lent) .world) (event-holds m b p o s w h (eventOf c))
 
   -- the ledger is told the same of both
-  pub run-told : (calls : List PanelCall) (s : List ℕ) (w : World) → Holds m b p s w → panelTold (bytesOf w) calls ≡ told w (map callOf calls)
+  pub run-told : (calls : List PanelCall) (s : List ℕ) (w : World) → Holds m b p s w → panelTold (bytesOf w) calls ≡ told w (map eventOf calls)
   run-told [] s w h = refl
   run-told (c ∷ cs) s w h =
       ap (λ (x : Panel). toldOf (c .request) (c .lent) ∷ panelTold x cs) (step-bytes w (whole s w h) (c .lent) (c .n) (c .t) (c .needed) (c .request))
       ∙ ap (λ (l : List Told). toldOf (c .request) (c .lent) ∷ l)
-      (run-told cs (entered m s (tell w (callOf c))) (stepOf w (c .request) (c .lent) .world) (step-holds m b p o s w h (callOf c)))
+      (run-told cs (entries m s (told w (eventOf c ∷ []))) (stepOf w (c .request) (c .lent) .world) (event-holds m b p o s w h (eventOf c)))

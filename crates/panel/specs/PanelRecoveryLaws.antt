@@ -14,7 +14,7 @@ use Rattle.chip.specs.Chip.{chipOf, soundOf}
 use Rattle.chip.specs.ChipLaws.{sound-is}
 use Rattle.history.specs.declared.World.{World}
 use Rattle.history.specs.declared.CallAnswer as answers
-use Rattle.history.specs.History.{Call, ledgerAfter}
+use Rattle.history.specs.History.{Event, ledgerAfter}
 use Rattle.history.specs.WorldLaws.{Holds}
 use Rattle.history.specs.Theorem.{listOf}
 use Rattle.history.specs.Recovery.{failed, ResetAnswers, resetWorld}
@@ -22,15 +22,15 @@ use Rattle.history.specs.RecoveryLaws.{failed-recovers, reset-accepted}
 use Rattle.capi.specs.Capi.{chipBytes, nAfter, tAfter}
 use Rattle.capi.specs.CapiLaws.{zero-stores}
 use Rattle.panel.specs.PanelStep.{Panel, panelOf, panelStep}
-use Rattle.panel.specs.PanelHistory.{PanelCall, PanelOpened, panelLedger, callOf, PanelDemand3}
+use Rattle.panel.specs.PanelHistory.{PanelCall, PanelOpened, panelLedger, eventOf, PanelDemand3}
 use Rattle.panel.specs.PanelLaws.{bytesOf, Whole, step-bytes, step-answers}
 use Rattle.panel.specs.PanelTheorem.{opened, takes, after-bytes, ledger-after, whole-after, panel-owes}
 use Rattle.panel.specs.PanelRecovery.{panelFailed, PanelResetAnswers, panelReset, PanelRecoveredLists}
 
 module _ (m b p : ℕ) (memory : Panel) (o : PanelOpened m b p memory) (calls : List PanelCall) (registers : List ℕ)
     (sound : soundOf (chipOf m b p registers) ≡ true) (buffer : List ℕ) (n t needed : ℕ) where
-  abbrev same-calls : List Call
-  same-calls = map callOf calls
+  abbrev same-calls : List Event
+  same-calls = map eventOf calls
 
   -- the failure by value
   abbrev world : World

@@ -1,38 +1,41 @@
 -- Demand 3 is met for a C program: `panel-whole-lists`, from `holds-owes` of the crate history. `after-bytes` says that the bytes
--- after any list of calls are those of the record and chip after the same calls by value.
+-- after any list of calls are those of the record and chip after the same calls by value, and `none-pending` when a chip is finished.
 -- Assumes nothing.
 use mathlib.Core.Path.{_≡_, refl, sym, ap, ap₂, _∙_, subst}
 use mathlib.Core.Bool.{true}
-use mathlib.Core.List.{List, [], _∷_, _++_, map}
+use mathlib.Core.List.{List, [], _∷_, map, map-append}
 use Prim.Native.Nat.{ℕ, _≤_}
+use native.Mathlib.Omega.{arith}
 use lib.ListN.{length}
 use Rattle.map.specs.Refusals.{accepted, answerNumber, opens, openAnswer}
 use Rattle.map.specs.Map.{isDot}
 use Rattle.map.specs.Images.{resetImage}
-use Rattle.burst.specs.Burst.{transactions}
+use Rattle.burst.specs.Burst.{Burst, transactions}
 use Rattle.calls.specs.declared.Request.the-variants.{Update}
 use Rattle.host.specs.declared.Header.{Header}
 use Rattle.host.specs.declared.Record.{Record}
 use Rattle.host.specs.Record.{headerOf, recordOf, soundOf, openOf}
 use Rattle.host.specs.SoundLaws.{is-sound}
 use Rattle.update.specs.declared.ListAnswer.{ListAnswer}
-use Rattle.update.specs.Update.{listNumber, sendOf, updating, updateOf, updateBuffer}
+use Rattle.update.specs.declared.ListAnswer.the-variants.{Listed}
+use Rattle.update.specs.Update.{listNumber, sendOf, writesOf, updating, updateOf, updateBuffer}
+use Rattle.update.specs.SendLaws.{answered, answer-of}
 use Rattle.update.specs.BoundLaws.{always-room}
 use Rattle.chip.specs.declared.Chip.{Chip}
 use Rattle.chip.specs.Chip.{atResetOf, feedOf}
 use Rattle.history.specs.declared.World.{World}
 use Rattle.history.specs.declared.CallAnswer as answers
 use Rattle.history.specs.Ledger.{entries, ledger, wantsOn}
-use Rattle.history.specs.History.{Call, start, run, worldAfter, told, ledgerAfter, AllAllowed, SameWritable, Rival, Updates, Owed}
+use Rattle.history.specs.History.{start, run, worldAfter, told, ledgerAfter, AllAllowed, SameWritable, Rival, Updates, Owed}
 use Rattle.history.specs.WorldLaws.{Holds, start-holds, run-holds}
 use Rattle.history.specs.Theorem.{holds-owes}
 use Rattle.history.specs.Lamps.{SameLamp, same-lamp}
-use Rattle.capi.specs.Capi.{headerIn, recordBytes, recordSize, chipBytes, chipSize, whenSized, settingNumber, chipNumber, nAfter, tAfter, Outcome, ListOutcome}
+use Rattle.capi.specs.Capi.{headerIn, recordIn, recordBytes, recordSize, chipBytes, chipSize, whenSized, settingNumber, chipNumber, nAfter, tAfter, Outcome, ListOutcome}
 use Rattle.capi.specs.Calls.{chipFeedCall}
-use Rattle.capi.specs.CapiLaws.{record-sized, chip-sized, record-length, chip-length, accepted-zero, zero-accepted, zero-stores}
+use Rattle.capi.specs.CapiLaws.{record-back, record-sized, chip-sized, record-length, chip-length, accepted-zero, zero-accepted, zero-stores}
 use Rattle.capi.specs.CallLaws.{listOutcomeOf, open-accepted, open-bytes, at-reset-bytes, send-call, feed-call}
 use Rattle.panel.specs.PanelStep.{Panel, panelOf}
-use Rattle.panel.specs.PanelHistory.{PanelCall, panelStart, PanelOpened, panelRun, panelAfter, panelTold, callOf, panelLedger, registersIn, PanelRival, listOf, updateLeaves, PanelUpdates, PanelOwed, PanelDemand3, PanelWholeLists}
+use Rattle.panel.specs.PanelHistory.{PanelCall, panelStart, PanelOpened, panelRun, panelAfter, panelTold, eventOf, panelLedger, registersIn, PanelRival, listOf, updateLeaves, PanelUpdates, PanelOwed, PanelDemand3, PanelWholeLists}
 use Rattle.panel.specs.PanelLaws.{bytesOf, Whole, whole, run-bytes, run-told}
 
 -- any memory of the two sizes serves, with any member, bus and pins that Open takes
@@ -80,29 +83,29 @@ module _ (m b p : ℕ) (c d : World) (h : length (c .chip .registers) ≡ 908) (
 
 -- ---- after any list of calls
 
-map-join : (xs ys : List PanelCall) → map callOf (xs ++ ys) ≡ map callOf xs ++ map callOf ys
-map-join [] ys = refl
-map-join (x ∷ xs) ys = ap (λ (l : List Call). callOf x ∷ l) (map-join xs ys)
+no-writes : (xs : List Burst) → length xs ≡ 0 → xs ≡ []
+no-writes [] e = refl
+no-writes (x ∷ xs) e = absurd (omega arith)
 
 -- from the bytes of a world for which the invariant of history holds
 module _ (m b p : ℕ) (so : opens m b p ≡ true) (s : List ℕ) (w : World) (h : Holds m b p s w) where
   -- the bytes are those of the record and the chip after the same calls by value
-  pub run-is : (calls : List PanelCall) → panelRun (bytesOf w) calls ≡ bytesOf (run w (map callOf calls))
+  pub run-is : (calls : List PanelCall) → panelRun (bytesOf w) calls ≡ bytesOf (run w (map eventOf calls))
   run-is calls = run-bytes m b p so calls s w h
 
   module _ (calls : List PanelCall) where
     abbrev world : World
-    world = run w (map callOf calls)
+    world = run w (map eventOf calls)
 
     abbrev asked : List ℕ
-    asked = entries m s (told w (map callOf calls))
+    asked = entries m s (told w (map eventOf calls))
 
     -- the ledger is the same, too
     ledger-is : entries m s (panelTold (bytesOf w) calls) ≡ asked
     ledger-is = ap (entries m s) (run-told m b p so calls s w h)
 
     holds : Holds m b p asked world
-    holds = run-holds m b p so (map callOf calls) s w h
+    holds = run-holds m b p so (map eventOf calls) s w h
 
     sizes : Whole world
     sizes = whole m b p so asked world holds
@@ -130,15 +133,28 @@ module _ (m b p : ℕ) (so : opens m b p ≡ true) (s : List ℕ) (w : World) (h
       unfolding sendOf
       room-here k = ap (λ (x : ListOutcome). x .answer) left-is ∙ ap listNumber (always-room (world .host) is-so (length buffer) k)
 
+      -- one that answers 0 and stores n = 0 has nothing pending
+      none-here : updateLeaves (panelRun (bytesOf w) calls) buffer n t .answer ≡ 0 → updateLeaves (panelRun (bytesOf w) calls) buffer n t .n ≡ 0 →
+          writesOf (recordIn (panelRun (bytesOf w) calls .host)) ≡ []
+      none-here zero none =
+          let r : Record = world .host in
+          let listed : answer ≡ Listed (nAfter answer n) (tAfter answer t) =
+          zero-stores answer n t (ap (λ (x : ListOutcome). x .answer) (sym left-is) ∙ zero) in
+          let n-is : nAfter answer n ≡ length (writesOf r) =
+          answered r (updating r) refl (length buffer) (nAfter answer n) (tAfter answer t) (sym (answer-of r (updating r) (length buffer)) ∙ listed) .n-is in
+          ap (λ (x : Panel). writesOf (recordIn (x .host))) (run-is calls)
+          ∙ ap writesOf (record-back r (sizes .settings) (sizes .image))
+          ∙ no-writes (writesOf r) (sym n-is ∙ ap (λ (x : ListOutcome). x .n) (sym left-is) ∙ none)
+
   -- ---- an Update that answered 0
 
   module _ (calls before behind : List PanelCall) (buffer : List ℕ) (n t needed : ℕ) (u : PanelUpdates (bytesOf w) calls before behind buffer n t needed) where
     abbrev stores : ListAnswer
     stores = answer before buffer n t
 
-    updates : Updates w (map callOf calls) (map callOf before) (map callOf behind) buffer (nAfter stores n) (tAfter stores t)
+    updates : Updates w (map eventOf calls) (map eventOf before) (map eventOf behind) buffer (nAfter stores n) (tAfter stores t)
     updates = record {
-      calls-are = ap (map callOf) (u .calls-are) ∙ map-join before (record { request = Update; lent = buffer; n = n; t = t; needed = needed } ∷ behind);
+      events-are = ap (map eventOf) (u .calls-are) ∙ map-append eventOf before (record { request = Update; lent = buffer; n = n; t = t; needed = needed } ∷ behind);
       answers = ap answers.the-variants.List (zero-stores stores n t (ap (λ (x : ListOutcome). x .answer) (sym (left-is before buffer n t)) ∙ u .answers));
     }
 
@@ -147,7 +163,7 @@ module _ (m b p : ℕ) (so : opens m b p ≡ true) (s : List ℕ) (w : World) (h
         subst (λ (x : ListOutcome). AllAllowed b p (headerIn (panelRun (bytesOf w) before .host)) (transactions (listOf x))) (sym (left-is before buffer n t))
         (subst (λ (x : Header). AllAllowed b p x (transactions (listOf (left before buffer n t))))
         (sym (ap (λ (x : Panel). headerIn (x .host)) (run-is before) ∙ header-is (world before .host)))
-        (holds-owes m b p so s w h (map callOf calls) .names (map callOf before) (map callOf behind) buffer (nAfter stores n) (tAfter stores t) updates))
+        (holds-owes m b p so s w h (map eventOf calls) .names (map eventOf before) (map eventOf behind) buffer (nAfter stores n) (tAfter stores t) updates))
 
   module _ (calls before : List PanelCall) (buffer : List ℕ) (n t needed : ℕ) (u : PanelUpdates (bytesOf w) calls before [] buffer n t needed) where
     abbrev found : ListOutcome
@@ -155,7 +171,7 @@ module _ (m b p : ℕ) (so : opens m b p ≡ true) (s : List ℕ) (w : World) (h
 
     -- the claim by value, and in it the worlds before and after the Update
     claim : Owed m b p (asked calls) (world before) (world calls) (listOf found) (found .n) (found .t)
-    claim = holds-owes m b p so s w h (map callOf calls) .last (map callOf before) buffer (found .n) (found .t) (updates calls before [] buffer n t needed u)
+    claim = holds-owes m b p so s w h (map eventOf calls) .last (map eventOf before) buffer (found .n) (found .t) (updates calls before [] buffer n t needed u)
 
     -- on the bytes of those worlds
     owed-bytes : PanelOwed m b p (asked calls) (bytesOf (world before)) (bytesOf (world calls)) found
@@ -181,11 +197,28 @@ module _ (m b p : ℕ) (so : opens m b p ≡ true) (s : List ℕ) (w : World) (h
         (subst (λ (x : Panel). PanelOwed m b p (asked calls) x now found) (sym (run-is before))
         (subst (λ (x : Panel). PanelOwed m b p (asked calls) (bytesOf (world before)) x found) (sym (run-is calls)) owed-bytes)))
 
+  -- ---- a chip with nothing pending, whatever the last call was
+
+  abbrev Finished : List ℕ → Panel → Type 0
+  Finished asks x = writesOf (recordIn (x .host)) ≡ [] → wantsOn asks ≡ true → SameWritable m (registersIn (x .chip)) asks
+
+  finished-bytes : (calls : List PanelCall) → Finished (asked calls) (bytesOf (world calls))
+  finished-bytes calls none on =
+      let same : recordIn (recordBytes (world calls .host)) ≡ world calls .host = record-back (world calls .host) (sizes calls .settings) (sizes calls .image) in
+      subst (λ (x : List ℕ). SameWritable m x (asked calls)) (sym (registers-are (world calls .chip)))
+      (holds-owes m b p so s w h (map eventOf calls) .finished (ap writesOf (sym same) ∙ none) on)
+
+  finished-so : (calls : List PanelCall) → Finished (entries m s (panelTold (bytesOf w) calls)) (panelRun (bytesOf w) calls)
+  finished-so calls =
+      subst (λ (x : List ℕ). Finished x (panelRun (bytesOf w) calls)) (sym (ledger-is calls))
+      (subst (Finished (asked calls)) (sym (run-is calls)) (finished-bytes calls))
+
   -- Demand 3 is owed from there
   pub panel-owes : (calls : List PanelCall) → PanelDemand3 m b p s (bytesOf w) calls
   panel-owes calls = record {
     names = λ before behind buffer n t needed u. names-so calls before behind buffer n t needed u;
     last = λ before buffer n t needed u. last-so calls before buffer n t needed u;
+    finished = finished-so calls;
   }
 
 -- ---- after an accepted Open
@@ -205,33 +238,40 @@ module _ (m b p : ℕ) (memory : Panel) (o : PanelOpened m b p memory) where
   begins = start-holds m b p takes
 
   -- the bytes are those of the record and the chip after the same calls by value
-  pub after-bytes : (calls : List PanelCall) → panelAfter m b p memory calls ≡ bytesOf (worldAfter m b p (map callOf calls))
+  pub after-bytes : (calls : List PanelCall) → panelAfter m b p memory calls ≡ bytesOf (worldAfter m b p (map eventOf calls))
   after-bytes calls = ap (λ (x : Panel). panelRun x calls) start-bytes ∙ run-is m b p takes (resetImage m) (start m b p) begins calls
 
   -- and the ledger is the same
-  pub ledger-after : (calls : List PanelCall) → panelLedger m b p memory calls ≡ ledgerAfter m b p (map callOf calls)
+  pub ledger-after : (calls : List PanelCall) → panelLedger m b p memory calls ≡ ledgerAfter m b p (map eventOf calls)
   ledger-after calls =
       ap (λ (x : Panel). ledger m (panelTold x calls)) start-bytes ∙ ledger-is m b p takes (resetImage m) (start m b p) begins calls
 
   module _ (calls : List PanelCall) where
-    pub whole-after : Whole (worldAfter m b p (map callOf calls))
+    pub whole-after : Whole (worldAfter m b p (map eventOf calls))
     whole-after = sizes m b p takes (resetImage m) (start m b p) begins calls
 
     -- the sizes stay
     pub record-size : length (panelAfter m b p memory calls .host) ≡ recordSize
     record-size =
         ap (λ (x : Panel). length (x .host)) (after-bytes calls)
-        ∙ record-length (worldAfter m b p (map callOf calls) .host) (whole-after .settings) (whole-after .image)
+        ∙ record-length (worldAfter m b p (map eventOf calls) .host) (whole-after .settings) (whole-after .image)
 
     pub chip-size : length (panelAfter m b p memory calls .chip) ≡ chipSize
     chip-size =
-        ap (λ (x : Panel). length (x .chip)) (after-bytes calls) ∙ chip-length (worldAfter m b p (map callOf calls) .chip) (whole-after .registers)
+        ap (λ (x : Panel). length (x .chip)) (after-bytes calls) ∙ chip-length (worldAfter m b p (map eventOf calls) .chip) (whole-after .registers)
 
     -- with a buffer of 1,174 bytes an Update always answers 0
     pub room : (buffer : List ℕ) (n t : ℕ) → 1174 ≤ length buffer → updateLeaves (panelAfter m b p memory calls) buffer n t .answer ≡ 0
     room buffer n t k =
         ap (λ (x : Panel). updateLeaves (panelRun x calls) buffer n t .answer) start-bytes
         ∙ room-here m b p takes (resetImage m) (start m b p) begins calls buffer n t k
+
+    -- and a chip is finished where one would answer 0 and store n = 0: the premise of `finished`
+    pub none-pending : (buffer : List ℕ) (n t : ℕ) → updateLeaves (panelAfter m b p memory calls) buffer n t .answer ≡ 0 →
+        updateLeaves (panelAfter m b p memory calls) buffer n t .n ≡ 0 → writesOf (recordIn (panelAfter m b p memory calls .host)) ≡ []
+    none-pending buffer n t =
+        subst (λ (x : Panel). updateLeaves (panelRun x calls) buffer n t .answer ≡ 0 → updateLeaves (panelRun x calls) buffer n t .n ≡ 0 →
+        writesOf (recordIn (panelRun x calls .host)) ≡ []) (sym start-bytes) (none-here m b p takes (resetImage m) (start m b p) begins calls buffer n t)
 
 -- Demand 3 for a C program
 pub panel-whole-lists : PanelWholeLists
@@ -252,3 +292,10 @@ pub no-lamp-stale : (m b p : ℕ) (memory : Panel) → PanelOpened m b p memory 
     PanelUpdates (panelStart m b p memory) calls before [] buffer n t needed → wantsOn (panelLedger m b p memory calls) ≡ true → (l k : ℕ) → isDot m l k ≡ true →
     SameLamp (registersIn (panelAfter m b p memory calls .chip)) (panelLedger m b p memory calls) l k
 no-lamp-stale m b p memory o calls = lamps-owed m b p (resetImage m) (panelStart m b p memory) calls (panel-whole-lists m b p memory o calls)
+
+-- Nor is one of a chip that is finished, whatever the last call was.
+pub finished-lamps : (m b p : ℕ) (memory : Panel) → PanelOpened m b p memory → (calls : List PanelCall) →
+    writesOf (recordIn (panelAfter m b p memory calls .host)) ≡ [] → wantsOn (panelLedger m b p memory calls) ≡ true → (l k : ℕ) → isDot m l k ≡ true →
+    SameLamp (registersIn (panelAfter m b p memory calls .chip)) (panelLedger m b p memory calls) l k
+finished-lamps m b p memory o calls none on =
+    same-lamp m (registersIn (panelAfter m b p memory calls .chip)) (panelLedger m b p memory calls) (panel-whole-lists m b p memory o calls .finished none on)

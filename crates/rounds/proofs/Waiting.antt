@@ -57,8 +57,7 @@ module _ (r : Record) where
           (others : List Write) × (rest ≡ one start end ++ others) × Past r end others
       found rest q g =
           let t = finished-prefix (marksOf r) end 908 (q .done ++ one start end) (g .finished) (g .most) in
-          let is : plan (marksOf r) 908 ≡ q .done ++ (one start end ++ t .0) = t .1 ∙ append-assoc (q .done) (one start end) (t .0) in
-          (
+          let is : plan (marksOf r) 908 ≡ q .done ++ (one start end ++ t .0) = t .1 ∙ append-assoc (q .done) (one start end) (t .0) in (
             t .0,
             q .rest-is ∙ ap (drop (q .count)) (all-planned o ∙ is) ∙ ap (λ (k : ℕ). drop k (q .done ++ (one start end ++ t .0))) (q .going .count)
                 ∙ drop-append-seam (q .done) (one start end ++ t .0),

@@ -38,7 +38,7 @@ returns-3 c =
     let n = c .next-planned2 .ensures in (
       n .0,
       waiting-starts (recordOf (a .matrix .header) (a .settings .now) (a .image .now)) (a .from) _ _ (omega (arith, c .before .before .before .before .if1 .left))
-      (omega (arith, c .before .if2 .left)) (n .0 .2) (n .1),
+          (omega (arith, c .before .if2 .left)) (n .0 .2) (n .1),
     )
 
 pub next-waiting-spec : {M : Type 1} → statement M
