@@ -17,6 +17,7 @@ use Rattle.session.specs.Run.{openedSession, withWorld}
 use Rattle.booth.specs.declared.Booth.{Booth}
 use Rattle.booth.specs.declared.BoothRounded.{BoothRounded}
 
+-- the session of a place
 abbrev pub sessionAt : Booth → ℕ → Session
 sessionAt x = atPlace (x .first) (x .second) (x .third) (x .fourth)
 

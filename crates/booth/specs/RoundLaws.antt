@@ -1,5 +1,5 @@
 -- Laws of Booth.antt about the four panels on their bus: a call of the current panel is a plain bus call at its place, the marks of a round are
--- the bits of P, and the numbers of its answer have at most eleven characters.
+-- the bits of P, the numbers of its answer have at most eleven characters, and its list has at most 4,684 bytes.
 -- Assumes nothing.
 use mathlib.Core.Path.{_≡_, refl, ap}
 use mathlib.Core.Bool.{Bool, true, false, cond, _&&_}
@@ -10,7 +10,7 @@ use lib.Dec.{eqb, leb}
 use lib.ListN.{length}
 use Rattle.map.specs.declared.refusals.Refusal.{Refusal}
 use Rattle.map.specs.declared.refusals.Refusal.the-variants.{BufferShort, Unsound, RoundLimit, NotItsPlace}
-use Rattle.map.specs.Refusals.{refusalNumber, numbersIn}
+use Rattle.map.specs.Refusals.{refusalNumber, numbersIn, numbersOf}
 use Rattle.map.specs.RefusalLaws.{refusal-small}
 use Rattle.calls.specs.declared.Request.{Request}
 use Rattle.host.specs.declared.Record.{Record}
@@ -20,6 +20,7 @@ use Rattle.update.specs.declared.ListAnswer.the-variants.{Listed, Refused}
 use Rattle.update.specs.Update.{isListed, listNumbers}
 use Rattle.rounds.specs.Round.{countAll, bytesAll, roundSize, leastLimit, mostLimit, everyPlace, roundParts, presentSound, presentPlaced, roundAnswer, atPlace, presentAt}
 use Rattle.rounds.specs.ListLaws.{few-parts}
+use Rattle.rounds.specs.AcceptLaws.{roundMost, round-most}
 use Rattle.rounds.specs.DealLaws.{round-bytes, Takes, round-takes, parts-ready}
 use Rattle.bus.specs.Bus.{plain, placeOf, worldAt, panelsOf, hostsOf, busStep, steppedOf}
 use Rattle.script.specs.declared.command.Lent as lents
@@ -78,6 +79,10 @@ module _ (present : ℕ → Bool) (records : ℕ → Record) (limit size : ℕ) 
   abbrev t : ℕ
   t = bytesAll (roundParts present records limit)
 
+  -- its answer, by its four conditions
+  abbrev by : Bool → Bool → Bool → Bool → ListAnswer
+  by a b c d = cond a (cond b (cond c (cond d (Listed n t) (Refused BufferShort)) (Refused NotItsPlace)) (Refused RoundLimit)) (Refused Unsound)
+
   small : Takes present records limit size → (n < 10000) × (t < 10000)
   small e =
       let bytes = round-bytes present records limit in
@@ -96,9 +101,6 @@ module _ (present : ℕ → Bool) (records : ℕ → Record) (limit size : ℕ) 
       go (everyPlace (presentSound present records)) (leb leastLimit limit && leb limit mostLimit) (everyPlace (presentPlaced present records))
       (leb (roundSize (roundParts present records limit)) size) (λ e. small (round-takes present records limit size e))
     where
-      by : Bool → Bool → Bool → Bool → ListAnswer
-      by a b c d = cond a (cond b (cond c (cond d (Listed n t) (Refused BufferShort)) (Refused NotItsPlace)) (Refused RoundLimit)) (Refused Unsound)
-
       go : (a b c d : Bool) → (isListed (by a b c d) ≡ true → (n < 10000) × (t < 10000)) → length (numbersText (listNumbers (by a b c d))) ≤ 11
       go true true true true h = listed-most (h refl)
       go true true true false h = refused-most BufferShort
@@ -106,9 +108,30 @@ module _ (present : ℕ → Bool) (records : ℕ → Record) (limit size : ℕ) 
       go true false c d h = refused-most RoundLimit
       go false b c d h = refused-most Unsound
 
+  -- the list that an answer of 0, n and t tells of
+  list-most : 4 + 2 * numbersOf (listNumbers (roundAnswer present records limit size)) .first + numbersOf (listNumbers (roundAnswer present records limit size)) .second ≤ roundMost
+  unfolding roundAnswer numbersOf
+  list-most =
+      go (everyPlace (presentSound present records)) (leb leastLimit limit && leb limit mostLimit) (everyPlace (presentPlaced present records))
+      (leb (roundSize (roundParts present records limit)) size) (λ e. round-most present records (round-takes present records limit size e .sound) limit)
+    where
+      go : (a b c d : Bool) → (isListed (by a b c d) ≡ true → 4 + 2 * n + t ≤ roundMost) →
+          4 + 2 * numbersOf (listNumbers (by a b c d)) .first + numbersOf (listNumbers (by a b c d)) .second ≤ roundMost
+      go true true true true h = h refl
+      go true true true false h = omega arith
+      go true true false d h = omega arith
+      go true false c d h = omega arith
+      go false b c d h = omega arith
+
 -- "`0 n t`, or `N`"
 pub round-numbers : (x : Booth) (p limit : ℕ) (buffer : List ℕ) → length (numbersText (numbersIn (roundedBooth x p limit buffer .numbers))) ≤ 11
 unfolding roundedBooth roundCall steppedOf
 round-numbers x p limit buffer =
     let answer = roundAnswer (presentAt (presentOf p)) (hostsOf (worldAt (panelsIn x))) limit (length buffer) in
     omega (arith, numbers-within (listNumbers answer), answer-most (presentAt (presentOf p)) (hostsOf (worldAt (panelsIn x))) limit (length buffer))
+
+-- its list fits the place of the last one
+pub round-list : (x : Booth) (p limit : ℕ) (buffer : List ℕ) →
+    4 + 2 * roundedBooth x p limit buffer .numbers .first + roundedBooth x p limit buffer .numbers .second ≤ roundMost
+unfolding roundedBooth roundCall steppedOf
+round-list x p limit buffer = list-most (presentAt (presentOf p)) (hostsOf (worldAt (panelsIn x))) limit (length buffer)

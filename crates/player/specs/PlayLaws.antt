@@ -8,9 +8,10 @@ use Prim.Native.Nat.{ℕ, _+_, _*_, _^_, _≤_, _<_}
 use native.Mathlib.Decide.{decLt}
 use native.Mathlib.Omega.{arith}
 use borrow.Author.Tests.{lt-ltb, le-ltb, le-leb, leb-true}
-use lib.Dec.{ltb, leb}
+use lib.Dec.{ltb, leb, eqb}
 use lib.ListN.{length, take, length-append, length-take}
 use lib.Seq.{length-take-le}
+use Rattle.map.specs.declared.refusals.Numbers as numbers
 use Rattle.map.specs.Refusals.{numbersIn}
 use Rattle.map.specs.RefusalLaws.{refusal-small}
 use Rattle.faults.specs.declared.Answer as faults
@@ -30,9 +31,9 @@ use Rattle.listing.specs.ShowLaws.{list-short}
 use Rattle.pictures.specs.Pictures.{lampsText, faultsText, differencesText}
 use Rattle.pictures.specs.PictureLaws.{lamps-most, faults-most, differences-most}
 use Rattle.session.specs.declared.Session.{Session}
-use Rattle.booth.specs.RoundLaws.{round-numbers}
+use Rattle.booth.specs.RoundLaws.{round-numbers, round-list}
 use Rattle.player.specs.declared.Player.{Player}
-use Rattle.player.specs.Play.{countedFrom, counted, sessionOf, freshBuffer, rounded, roundShown, roundLine, lampsOf, faultMapBy, faultMapText, differencesOf, lastListText, keeping, asideLine, echoText, lineText, echoedText, printed, longestText, longestLine}
+use Rattle.player.specs.Play.{withBooth, countedFrom, counted, sessionOf, freshBuffer, sizeBy, rounded, roundShown, roundLine, afterRound, lampsOf, faultMapBy, faultMapText, differencesOf, lastListText, keeping, asideLine, echoText, lineText, echoedText, printed, longestText, longestLine}
 
 -- ---- asides
 
@@ -110,6 +111,25 @@ round-most p m limit n h =
       round-numbers (p .booth) m limit (take n freshBuffer),
       bytes-length 16384 shown (omega arith) (omega arith),
     )
+
+-- the list that an answer tells of has no more bytes than its n and t say
+size-within : (x : numbers.Numbers) → sizeBy x ≤ 4 + 2 * x .first + x .second
+unfolding sizeBy
+size-within x = go (eqb (x .number) 0 && (ltb (x .first) 65536 && ltb (x .second) 65536))
+  where
+    go : (b : Bool) → cond b (4 + 2 * x .first + x .second) 0 ≤ 4 + 2 * x .first + x .second
+    go true = omega arith
+    go false = omega arith
+
+-- "`list` shows the last list that a call wrote": behind an accepted round, all of it, with the heads of bus 0
+pub round-shows : (p : Player) (m limit n : ℕ) (l : List ℕ) → 0 < sizeBy (rounded p m limit n .numbers) →
+    sizeBy (rounded p m limit n .numbers) ≤ length (roundShown p m limit n) → length (p .list) ≡ 4684 →
+    asideLine (afterRound p m limit n) LastList l ≡ listText 0 (take (sizeBy (rounded p m limit n .numbers)) (roundShown p m limit n)) ++ (0x0A ∷ [])
+unfolding afterRound withBooth rounded
+round-shows p m limit n l some there size =
+    let most = round-list (p .booth) m limit (take n freshBuffer) in
+    list-shows (withBooth p (rounded p m limit n .booth)) (sizeBy (rounded p m limit n .numbers)) (roundShown p m limit n) l 0 some
+    (omega (arith, size-within (rounded p m limit n .numbers))) there size
 
 -- ---- any line
 
