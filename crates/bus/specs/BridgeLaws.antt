@@ -19,9 +19,9 @@ use Rattle.chip.specs.declared.Chip.{Chip}
 use Rattle.chip.specs.declared.Fed.{Fed}
 use Rattle.chip.specs.Chip.{chipOf, feedOf}
 use Rattle.chip.specs.ChipLaws.{Sound}
-use Rattle.rounds.specs.Round.{bytesAll, roundList, partAt, takes, roundParts, roundRecord}
+use Rattle.rounds.specs.Round.{bytesAll, roundList, partAt, takes, roundParts, roundRecord, roundRoom}
 use Rattle.rounds.specs.ListLaws.{AllReady}
-use Rattle.rounds.specs.DealLaws.{Takes, round-takes, roundRoom, part-is, four-parts, round-bytes, parts-ready}
+use Rattle.rounds.specs.DealLaws.{Takes, round-takes, part-is, four-parts, round-bytes, parts-ready}
 use Rattle.history.specs.declared.World.{World}
 use Rattle.history.specs.Ledger.{Told, entries}
 use Rattle.history.specs.Step.{stepOf, sentTo, partStep}

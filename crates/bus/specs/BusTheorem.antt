@@ -22,9 +22,9 @@ use Rattle.host.specs.Record.{headerOf, mayWrite}
 use Rattle.update.specs.declared.ListAnswer.{ListAnswer}
 use Rattle.update.specs.declared.ListAnswer.the-variants.{Listed}
 use Rattle.update.specs.Update.{listNumbers, isListed, over, writesOf}
-use Rattle.rounds.specs.Round.{bytesAll, countAll, pinned, shareOf, roundList, partAt, roundParts, roundAnswer, roundBuffer}
+use Rattle.rounds.specs.Round.{bytesAll, countAll, pinned, shareOf, roundList, partAt, roundParts, roundAnswer, roundBuffer, roundRoom}
 use Rattle.rounds.specs.ListLaws.{AllReady, round-length, round-n, round-t, round-transactions}
-use Rattle.rounds.specs.DealLaws.{Takes, round-takes, roundRoom, part-is, four-parts, round-bytes, round-share, parts-ready}
+use Rattle.rounds.specs.DealLaws.{Takes, round-takes, part-is, four-parts, round-bytes, round-share, parts-ready}
 use Rattle.history.specs.declared.World.{World}
 use Rattle.history.specs.declared.CallAnswer as answers
 use Rattle.history.specs.Ledger.{entries}

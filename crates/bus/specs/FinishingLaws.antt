@@ -24,8 +24,8 @@ use Rattle.host.specs.declared.Record.{Record}
 use Rattle.host.specs.Record.{headerOf, recordOf, mayWrite, changedTo, settingOf}
 use Rattle.update.specs.Update.{isListed, sendAnswer, sendOf, writesOf, updating, resetting}
 use Rattle.update.specs.SendLaws.{host-kept}
-use Rattle.rounds.specs.Round.{shareOf, takes}
-use Rattle.rounds.specs.DealLaws.{roundRoom, room-share, round-takes}
+use Rattle.rounds.specs.Round.{shareOf, takes, roundRoom}
+use Rattle.rounds.specs.DealLaws.{room-share, round-takes}
 use Rattle.history.specs.declared.World.{World}
 use Rattle.history.specs.Ledger.{entries, wantsOn}
 use Rattle.history.specs.Step.{stepOf, partStep}

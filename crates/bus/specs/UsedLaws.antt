@@ -13,8 +13,7 @@ use Rattle.burst.specs.Burst.{Burst}
 use Rattle.update.specs.declared.ListAnswer.{ListAnswer}
 use Rattle.update.specs.Update.{isListed}
 use Rattle.chip.specs.Chip.{feedOf}
-use Rattle.rounds.specs.Round.{roundList, partAt, takes, roundParts, roundAnswer, roundRecord}
-use Rattle.rounds.specs.DealLaws.{roundRoom}
+use Rattle.rounds.specs.Round.{roundList, partAt, takes, roundParts, roundAnswer, roundRecord, roundRoom}
 use Rattle.rounds.specs.AbsentLaws.{parts-same, answer-same}
 use Rattle.history.specs.declared.World.{World}
 use Rattle.history.specs.Step.{stepOf}

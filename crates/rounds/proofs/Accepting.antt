@@ -27,9 +27,9 @@ use Rattle.rounds.specs.declared.Headers.{Headers}
 use Rattle.rounds.specs.declared.Present.{Present}
 use Rattle.rounds.specs.declared.Records.{Records}
 use Rattle.rounds.specs.declared.Rounded.{Rounded}
-use Rattle.rounds.specs.Round.{countAll, bytesAll, roundSize, roundList, partAt, leastLimit, mostLimit, everyPlace, takes, roundParts, presentSound, presentPlaced, roundAnswer, roundRecord, roundBuffer, roundOf, atPlace, presentAt, recordAt}
+use Rattle.rounds.specs.Round.{countAll, bytesAll, roundSize, roundList, partAt, leastLimit, mostLimit, everyPlace, takes, roundParts, presentSound, presentPlaced, roundAnswer, roundRecord, roundBuffer, roundOf, atPlace, presentAt, recordAt, roundRoom}
 use Rattle.rounds.specs.ListLaws.{round-length}
-use Rattle.rounds.specs.DealLaws.{Takes, round-takes, part-is, roundRoom}
+use Rattle.rounds.specs.DealLaws.{Takes, round-takes, part-is}
 use Rattle.rounds.specs.AbsentLaws.{refused-kept, refused-buffer}
 use Rattle.rounds.specs.Dealing.{AllWait, AllPlaced, DealtAre, dealtTotal, roundRefusal, RoundPut, ImagesAfter, recordsOf}
 use Rattle.rounds.proofs.Joining.{bytes-are}

@@ -19,9 +19,9 @@ use Rattle.writes.specs.Marks.{matrixOf}
 use Rattle.writes.specs.WrittenLaws.{sets-append, sets-comm, sizes-append, joined-append, stored-length}
 use Rattle.update.specs.Update.{writesOf}
 use Rattle.rounds.specs.declared.dealing.Dealt.{Dealt}
-use Rattle.rounds.specs.Round.{bytesAll, countAll, pinned, roundList, partAt, waiting, roundParts}
+use Rattle.rounds.specs.Round.{bytesAll, countAll, pinned, roundList, partAt, waiting, roundParts, roundRoom}
 use Rattle.rounds.specs.ListLaws.{pinned-count, pinned-sum}
-use Rattle.rounds.specs.DealLaws.{part-is, four-parts, roundRoom}
+use Rattle.rounds.specs.DealLaws.{part-is, four-parts}
 use Rattle.rounds.specs.Dealing.{waitingOf, AllPlaced, DealtAre, putPart, partTransactions, RoundPut}
 use Rattle.rounds.proofs.Shares.{absent-part, present-part}
 

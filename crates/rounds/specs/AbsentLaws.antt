@@ -15,8 +15,7 @@ use Rattle.host.specs.Record.{soundOf}
 use Rattle.update.specs.declared.ListAnswer.{ListAnswer}
 use Rattle.update.specs.declared.ListAnswer.the-variants.{Listed, Refused}
 use Rattle.update.specs.Update.{isListed, over, writesOf}
-use Rattle.rounds.specs.Round.{finalPortions, roundList, countAll, bytesAll, roundSize, leastLimit, mostLimit, everyPlace, takes, partAt, roundParts, presentSound, presentPlaced, roundAnswer, roundRecord, roundBuffer}
-use Rattle.rounds.specs.DealLaws.{waitings}
+use Rattle.rounds.specs.Round.{finalPortions, roundList, countAll, bytesAll, roundSize, leastLimit, mostLimit, everyPlace, takes, partAt, roundParts, presentSound, presentPlaced, roundAnswer, roundRecord, roundBuffer, waitings}
 
 -- ---- Absent records are not read
 

@@ -16,9 +16,9 @@ use Rattle.host.specs.Record.{soundOf}
 use Rattle.update.specs.declared.ListAnswer.the-variants.{Listed}
 use Rattle.update.specs.Update.{writesOf}
 use Rattle.update.specs.BoundLaws.{bus-most}
-use Rattle.rounds.specs.Round.{bytesAll, shareOf, leftOver, deal, countAll, roundSize, leastLimit, mostLimit, everyPlace, waiting, roundParts, presentSound, presentPlaced, roundAnswer}
+use Rattle.rounds.specs.Round.{bytesAll, shareOf, leftOver, deal, countAll, roundSize, leastLimit, mostLimit, everyPlace, waiting, roundParts, presentSound, presentPlaced, roundAnswer, waitings}
 use Rattle.rounds.specs.ListLaws.{few-parts}
-use Rattle.rounds.specs.DealLaws.{waitings, parts-ready}
+use Rattle.rounds.specs.DealLaws.{parts-ready}
 
 -- the length of a buffer that always suffices
 abbrev pub roundMost : ℕ

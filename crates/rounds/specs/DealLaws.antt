@@ -22,18 +22,10 @@ use Rattle.update.specs.declared.ListAnswer.{ListAnswer}
 use Rattle.update.specs.declared.ListAnswer.the-variants.{Listed, Refused}
 use Rattle.update.specs.Update.{isListed, writesOf}
 use Rattle.update.specs.BoundLaws.{names-writable}
-use Rattle.rounds.specs.Round.{bytesAll, shareOf, leftOver, deal, countAll, roundSize, partAt, leastLimit, mostLimit, everyPlace, waiting, roundParts, presentSound, presentPlaced, roundAnswer}
+use Rattle.rounds.specs.Round.{bytesAll, shareOf, leftOver, deal, roomAt, countAll, roundSize, partAt, leastLimit, mostLimit, everyPlace, waiting, waitings, roundRoom, roundParts, presentSound, presentPlaced, roundAnswer}
 use Rattle.rounds.specs.ListLaws.{AllReady}
 
 -- ---- Dealing out
-
--- the number of bytes that the portion of a place is found within at last
-unfoldable pub roomAt : ℕ → ℕ → List (List Burst) → ℕ → ℕ
-roomAt share left [] k = 0
-roomAt share left (c ∷ cs) zero = busBytes (portion share c) + left
-roomAt share left (c ∷ cs) (suc k) =
-    let room = busBytes (portion share c) + left in
-    roomAt share (room - busBytes (portion room c)) cs k
 
 -- the final portion of a place, within its room
 pub deal-at : (share left : ℕ) (cs : List (List Burst)) (k : ℕ) → partAt (deal share left cs) k ≡ portion (roomAt share left cs k) (partAt cs k)
@@ -110,38 +102,31 @@ implied true b e t = e
 implied false b e t = absurd (false≢true t)
 
 module _ (present : ℕ → Bool) (records : ℕ → Record) where
-  abbrev pub waitings : List (List Burst)
-  waitings = waiting present records 0 ∷ waiting present records 1 ∷ waiting present records 2 ∷ waiting present records 3 ∷ []
-
-  pub waiting-at : (k : ℕ) → k < 4 → partAt waitings k ≡ waiting present records k
+  pub waiting-at : (k : ℕ) → k < 4 → partAt (waitings present records) k ≡ waiting present records k
   waiting-at zero h = refl
   waiting-at (suc zero) h = refl
   waiting-at (suc (suc zero)) h = refl
   waiting-at (suc (suc (suc zero))) h = refl
   waiting-at (suc (suc (suc (suc k)))) h = absurd (omega arith)
 
-  -- the room of a place
-  abbrev pub roundRoom : ℕ → ℕ → ℕ
-  roundRoom limit k = roomAt (shareOf limit) (leftOver limit waitings) waitings k
-
   -- its part is its portion within that room
-  pub part-is : (limit k : ℕ) → k < 4 → partAt (roundParts present records limit) k ≡ portion (roundRoom limit k) (waiting present records k)
-  part-is limit k h = deal-at (shareOf limit) (leftOver limit waitings) waitings k ∙ ap (portion (roundRoom limit k)) (waiting-at k h)
+  pub part-is : (limit k : ℕ) → k < 4 → partAt (roundParts present records limit) k ≡ portion (roundRoom present records limit k) (waiting present records k)
+  part-is limit k h = deal-at (shareOf limit) (leftOver limit (waitings present records)) (waitings present records) k ∙ ap (portion (roundRoom present records limit k)) (waiting-at k h)
 
-  pub room-share : (limit k : ℕ) → k < 4 → busBytes (portion (shareOf limit) (waiting present records k)) ≤ roundRoom limit k
+  pub room-share : (limit k : ℕ) → k < 4 → busBytes (portion (shareOf limit) (waiting present records k)) ≤ roundRoom present records limit k
   room-share limit k h =
-      subst (λ (c : List Burst). busBytes (portion (shareOf limit) c) ≤ roundRoom limit k) (waiting-at k h)
-      (room-least (shareOf limit) (leftOver limit waitings) waitings k (omega arith))
+      subst (λ (c : List Burst). busBytes (portion (shareOf limit) c) ≤ roundRoom present records limit k) (waiting-at k h)
+      (room-least (shareOf limit) (leftOver limit (waitings present records)) (waitings present records) k (omega arith))
 
   pub four-parts : (limit : ℕ) → length (roundParts present records limit) ≡ 4
-  four-parts limit = deal-length (shareOf limit) (leftOver limit waitings) waitings
+  four-parts limit = deal-length (shareOf limit) (leftOver limit (waitings present records)) (waitings present records)
 
   -- "No round sends more than B."
   pub round-bytes : (limit : ℕ) → bytesAll (roundParts present records limit) ≤ limit
   round-bytes limit =
       omega (
         arith,
-        deal-bytes (shareOf limit) (leftOver limit waitings) waitings,
+        deal-bytes (shareOf limit) (leftOver limit (waitings present records)) (waitings present records),
         portion-bytes (shareOf limit) (waiting present records 0),
         portion-bytes (shareOf limit) (waiting present records 1),
         portion-bytes (shareOf limit) (waiting present records 2),
@@ -153,7 +138,7 @@ module _ (present : ℕ → Bool) (records : ℕ → Record) where
       Begins (portion (shareOf limit) (waiting present records k)) (partAt (roundParts present records limit) k)
   round-share limit k h =
       subst (Begins (portion (shareOf limit) (waiting present records k))) (sym (part-is limit k h))
-      (portion-more (shareOf limit) (roundRoom limit k) (waiting present records k) (room-share limit k h))
+      (portion-more (shareOf limit) (roundRoom present records limit k) (waiting present records k) (room-share limit k h))
 
   -- ---- what an accepted round says
 
@@ -202,7 +187,7 @@ module _ (present : ℕ → Bool) (records : ℕ → Record) where
   -- every part can be sent
   pub parts-ready : (limit : ℕ) → ((k : ℕ) → k < 4 → present k ≡ true → soundOf (records k) ≡ true) → AllReady (roundParts present records limit)
   parts-ready limit sound =
-      deal-ready (shareOf limit) (leftOver limit waitings) waitings (at 0 (omega arith), (at 1 (omega arith), (at 2 (omega arith), (at 3 (omega arith), tt))))
+      deal-ready (shareOf limit) (leftOver limit (waitings present records)) (waitings present records) (at 0 (omega arith), (at 1 (omega arith), (at 2 (omega arith), (at 3 (omega arith), tt))))
     where
       at : (k : ℕ) → k < 4 → Portionable (waiting present records k)
       at k h = go (present k) (sound k h)

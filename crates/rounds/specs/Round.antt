@@ -41,6 +41,14 @@ deal share left (c ∷ cs) =
     let room = busBytes (portion share c) + left in
     portion room c ∷ deal share (room - busBytes (portion room c)) cs
 
+-- the number of bytes that the portion of a place is found within at last
+unfoldable pub roomAt : ℕ → ℕ → List (List Burst) → ℕ → ℕ
+roomAt share left [] k = 0
+roomAt share left (c ∷ cs) zero = busBytes (portion share c) + left
+roomAt share left (c ∷ cs) (suc k) =
+    let room = busBytes (portion share c) + left in
+    roomAt share (room - busBytes (portion room c)) cs k
+
 -- "the final portions in pin order"
 abbrev pub finalPortions : ℕ → List (List Burst) → List (List Burst)
 finalPortions limit cs = deal (shareOf limit) (leftOver limit cs) cs
@@ -94,8 +102,15 @@ module _ (present : ℕ → Bool) (records : ℕ → Record) where
   abbrev pub waiting : ℕ → List Burst
   waiting k = cond (present k) (writesOf (records k)) []
 
+  abbrev pub waitings : List (List Burst)
+  waitings = waiting 0 ∷ waiting 1 ∷ waiting 2 ∷ waiting 3 ∷ []
+
   abbrev pub roundParts : ℕ → List (List Burst)
-  roundParts limit = finalPortions limit (waiting 0 ∷ waiting 1 ∷ waiting 2 ∷ waiting 3 ∷ [])
+  roundParts limit = finalPortions limit waitings
+
+  -- the bytes that a round has for a place: its part is its portion within these (`part-is` of DealLaws)
+  abbrev pub roundRoom : ℕ → ℕ → ℕ
+  roundRoom limit k = roomAt (shareOf limit) (leftOver limit waitings) waitings k
 
   -- 14
   abbrev pub presentSound : ℕ → Bool
