@@ -6,7 +6,6 @@ use mathlib.Core.List.{List, [], _∷_, _++_, append-assoc, append-nil}
 use Prim.Native.Nat.{ℕ, zero, suc, _+_, _-_, _*_, _/_, _%_, _<_, _≤_, _^_}
 use native.Mathlib.Nat.{add-zero, add-assoc}
 use native.Mathlib.Omega.{arith}
-use borrow.Author.Tests.{eq-eqb, ne-eqb, le-leb, lt-leb}
 use lib.Dec.{leb, eqb}
 use lib.ListN.{length, getD, take, drop, length-append, length-drop}
 use lib.Seq.{drop-drop, getD-drop, take-at, drop-at, take-append-add, drop-append-add}
@@ -25,7 +24,7 @@ use Rattle.rounds.specs.ListLaws.{few-parts}
 use Rattle.rounds.specs.DealLaws.{round-takes, round-bytes, parts-ready}
 use Rattle.rounds.specs.Dealing.{recordsOf, ImagesAfter}
 use Rattle.capi.specs.Capi.{headerIn, settingsAt, imageAt, recordIn, recordBytes, recordSize, putImage, placeAt, recordFrom, recordsIn, headersIn, recordsBytes, marked, marksIn, keptAt, keptAll, roundSized, roundAnswerBy, Fits}
-use Rattle.capi.specs.CapiLaws.{record-length, records-round}
+use Rattle.capi.specs.CapiLaws.{Whole, record-length, records-round, round-sized}
 use Rattle.capi.proofs.InPlace.{part-length}
 
 -- ---- what is read
@@ -93,9 +92,6 @@ module _ (bytes : List ℕ) where
 
 abbrev withImage : Record → List ℕ → Record
 withImage r image = recordOf (r .header) (r .settings) image
-
-abbrev Whole : Record → Type 0
-Whole r = (length (r .settings) ≡ 908) × (length (r .image) ≡ 908)
 
 -- the image of the first record,
 put-first : (r : Record) → Whole r → (image rest : List ℕ) →
@@ -351,22 +347,6 @@ unfolding roundOf
 round-within r p limit size answer e = subst Fits (sym e) (round-fits (presentAt p) (recordAt r) limit size)
 
 module _ (bytes : List ℕ) (present : ℕ) where
-  pub round-sized : length bytes ≡ placeAt 4 → present ≤ 15 → roundSized bytes present ≡ true
-  unfolding roundSized
-  round-sized h p = rw (eq-eqb (length bytes) (placeAt 4) h, le-leb present 15 p) refl
-
-  pub wrong-records : (length bytes ≡ placeAt 4 → ⊥) → roundSized bytes present ≡ false
-  unfolding roundSized
-  wrong-records n = rw (ne-eqb (length bytes) (placeAt 4) n) refl
-
-  pub wrong-marks : 15 < present → roundSized bytes present ≡ false
-  unfolding roundSized
-  wrong-marks l = rw (lt-leb present 15 l) (go (eqb (length bytes) (placeAt 4)))
-    where
-      go : (b : Bool) → (b && false) ≡ false
-      go true = refl
-      go false = refl
-
   -- on bytes of the right size, with marks of the four places
   module _ (h : length bytes ≡ placeAt 4) (p : present ≤ 15) (marks : Present) (e : marks ≡ marksIn present) (limit : ℕ) (buffer : List ℕ) (answer : ListAnswer) (new after : List ℕ) where
     abbrev Done : Present → Type 0
@@ -382,4 +362,4 @@ module _ (bytes : List ℕ) (present : ℕ) where
     unfolding roundAnswerBy
     round-called d =
         let x = subst Done e d in
-        (rw (round-sized h p) (sym (x .0)), (x .1 .0, rw (round-sized h p) (x .1 .1)))
+        (rw (round-sized bytes present h p) (sym (x .0)), (x .1 .0, rw (round-sized bytes present h p) (x .1 .1)))

@@ -93,7 +93,7 @@ chipSized bytes = eqb (length bytes) chipSize
 
 -- ---- Four records
 
--- "Four records back to back": where the one of place k begins
+-- "The records stand back to back, the one at place k for the chip with pins k.": where it begins
 abbrev pub placeAt : ℕ → ℕ
 placeAt k = recordSize * k
 
@@ -130,7 +130,7 @@ keptAll listed p bytes m0 m1 m2 m3 =
     let three = keptAt listed (p .third) two (placeAt 2 + imageAt) m2 in
     keptAt listed (p .fourth) three (placeAt 3 + imageAt) m3
 
--- "bit k of present is place k"
+-- "Bit k of present says that the record at place k takes part"
 abbrev pub marked : ℕ → ℕ → Bool
 marked present k = eqb (present / 2 ^ k % 2) 1
 
@@ -138,7 +138,7 @@ marked present k = eqb (present / 2 ^ k % 2) 1
 abbrev pub marksIn : ℕ → Present
 marksIn present = record { first = marked present 0; second = marked present 1; third = marked present 2; fourth = marked present 3 }
 
--- four records, and no mark beyond them
+-- neither of "records_size, or present above 15": four records, and no mark beyond them
 unfoldable pub roundSized : List ℕ → ℕ → Bool
 roundSized bytes present = eqb (length bytes) (placeAt 4) && leb present 15
 
@@ -230,7 +230,7 @@ listOutcome bytes x new buffer n t = record {
   t = tAfter (listAnswer bytes x) t;
 }
 
--- "14 unsound record or chip, or its size is wrong", as the answer of a round; so is a mark beyond the four places
+-- "14 (a present record, records_size, or present above 15)", as the answer of a round
 unfoldable pub roundAnswerBy : List ℕ → ℕ → ListAnswer → ListAnswer
 roundAnswerBy bytes present answer = cond (roundSized bytes present) answer (Refused Unsound)
 

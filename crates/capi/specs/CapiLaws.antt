@@ -1,11 +1,11 @@
 -- Laws of the C interface: records and chips read back from their bytes, what a refused call leaves, and what 0 stores.
 -- Assumes nothing.
-use mathlib.Core.Path.{_≡_, refl, sym, ap, _∙_}
-use mathlib.Core.Bool.{Bool, true, false, cond, false≢true}
-use mathlib.Core.List.{List, [], _∷_, _++_, append-assoc}
-use Prim.Native.Nat.{ℕ, suc, _+_, _≤_}
+use mathlib.Core.Path.{_≡_, refl, sym, ap, ap₂, _∙_}
+use mathlib.Core.Bool.{Bool, true, false, cond, _&&_, false≢true}
+use mathlib.Core.List.{List, [], _∷_, _++_, append-assoc, append-nil}
+use Prim.Native.Nat.{ℕ, suc, _+_, _≤_, _<_}
 use native.Mathlib.Omega.{arith}
-use borrow.Author.Tests.{eq-eqb, ne-eqb}
+use borrow.Author.Tests.{eq-eqb, ne-eqb, le-leb, lt-leb}
 use lib.Dec.{eqb}
 use lib.ListN.{length, getD, take, drop, length-append, length-drop, take-append-drop}
 use lib.Seq.{take-all, take-at, drop-at, take-add, drop-drop}
@@ -23,7 +23,7 @@ use Rattle.update.specs.declared.Updated.{Updated}
 use Rattle.update.specs.Update.{isListed, listNumber}
 use Rattle.chip.specs.declared.Chip.{Chip}
 use Rattle.chip.specs.Chip.{chipOf}
-use Rattle.capi.specs.Capi.{headerIn, settingsAt, settingsIn, imageAt, imageIn, recordIn, recordBytes, registersAt, chipIn, chipBytes, recordSize, recordSized, placeAt, recordsIn, recordsBytes, chipSize, chipSized, whenSized, settingNumber, settingBytes, chipNumber, chipAfter, listAnswer, listBytes, stored, nAfter, tAfter, neededAfter}
+use Rattle.capi.specs.Capi.{headerIn, settingsAt, settingsIn, imageAt, imageIn, recordIn, recordBytes, registersAt, chipIn, chipBytes, recordSize, recordSized, placeAt, recordsIn, recordsBytes, roundSized, chipSize, chipSized, whenSized, settingNumber, settingBytes, chipNumber, chipAfter, listAnswer, listBytes, stored, nAfter, tAfter, neededAfter}
 
 -- ---- the bytes read back
 
@@ -78,13 +78,22 @@ chip-round bytes h =
     ∙ sym (front bytes (drop registersAt bytes) (omega arith))
     ∙ take-append-drop registersAt bytes
 
+-- a record with whole images
+abbrev pub Whole : Record → Type 0
+Whole r = (length (r .settings) ≡ 908) × (length (r .image) ≡ 908)
+
+-- a record is read back from bytes that begin with its own
+pub record-begins : (r : Record) → Whole r → (rest : List ℕ) → recordIn (recordBytes r ++ rest) ≡ r
+unfolding recordIn headerIn recordBytes
+record-begins r w rest =
+    ap₂ (λ (s i : List ℕ). recordOf (r .header) s (take 908 i))
+    (ap (take 908) (append-assoc (r .settings) (r .image) rest) ∙ take-at (r .settings) (r .image ++ rest) 908 (w .0))
+    (ap (drop 908) (append-assoc (r .settings) (r .image) rest) ∙ drop-at (r .settings) (r .image ++ rest) 908 (w .0))
+    ∙ ap (λ (l : List ℕ). recordOf (r .header) (r .settings) l) (take-at (r .image) rest 908 (w .1))
+
 -- a record is read back from its bytes
 pub record-back : (r : Record) → length (r .settings) ≡ 908 → length (r .image) ≡ 908 → recordIn (recordBytes r) ≡ r
-unfolding recordIn headerIn recordBytes
-record-back r hs hi =
-    ap (λ (l : List ℕ). recordOf (r .header) l (take 908 (drop 908 (r .settings ++ r .image)))) (take-at (r .settings) (r .image) 908 hs)
-    ∙ ap (λ (l : List ℕ). recordOf (r .header) (r .settings) (take 908 l)) (drop-at (r .settings) (r .image) 908 hs)
-    ∙ ap (λ (l : List ℕ). recordOf (r .header) (r .settings) l) (take-all 908 (r .image) (omega arith))
+record-back r hs hi = ap recordIn (sym (append-nil (recordBytes r))) ∙ record-begins r (hs, hi) []
 
 -- bytes begin with those of the record that they begin with
 record-first : (bytes : List ℕ) → recordSize ≤ length bytes → recordBytes (recordIn bytes) ≡ take recordSize bytes
@@ -137,6 +146,23 @@ chip-sized bytes h = eq-eqb (length bytes) chipSize h
 pub chip-unsized : (bytes : List ℕ) → (length bytes ≡ chipSize → ⊥) → chipSized bytes ≡ false
 unfolding chipSized
 chip-unsized bytes n = ne-eqb (length bytes) chipSize n
+
+module _ (bytes : List ℕ) (present : ℕ) where
+  pub round-sized : length bytes ≡ placeAt 4 → present ≤ 15 → roundSized bytes present ≡ true
+  unfolding roundSized
+  round-sized h p = rw (eq-eqb (length bytes) (placeAt 4) h, le-leb present 15 p) refl
+
+  pub wrong-records : (length bytes ≡ placeAt 4 → ⊥) → roundSized bytes present ≡ false
+  unfolding roundSized
+  wrong-records n = rw (ne-eqb (length bytes) (placeAt 4) n) refl
+
+  pub wrong-marks : 15 < present → roundSized bytes present ≡ false
+  unfolding roundSized
+  wrong-marks l = rw (lt-leb present 15 l) (go (eqb (length bytes) (placeAt 4)))
+    where
+      go : (b : Bool) → (b && false) ≡ false
+      go true = refl
+      go false = refl
 
 -- a record with whole images has the size of a record
 pub record-length : (r : Record) → length (r .settings) ≡ 908 → length (r .image) ≡ 908 → length (recordBytes r) ≡ recordSize

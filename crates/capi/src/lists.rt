@@ -20,7 +20,7 @@ pub(crate) fn keep(answer: ListAnswer, bytes: &mut [u8], at: usize, image: &[u8;
     match answer {
         ListAnswer::Listed { n: _, t: _ } => records::put_image(bytes, at, image),
         ListAnswer::Short { needed: _ } => {} // nothing was written
-        ListAnswer::Refused(_) => {} // the record is unsound
+        ListAnswer::Refused(_) => {} // nor where it was refused
     }
 }
 

@@ -3,7 +3,8 @@
 use mathlib.Core.Path.{refl}
 use borrow.Author.Needs.{needs}
 use Rattle.capi.specs.Capi.{roundAnswerBy, stored}
-use Rattle.capi.proofs.FourRecords.{wrong-records, wrong-marks, round-within, round-called}
+use Rattle.capi.specs.CapiLaws.{wrong-records, wrong-marks}
+use Rattle.capi.proofs.FourRecords.{round-within, round-called}
 use Rattle.capi.proofs.lp586x_round.Statement.{statement}
 use Rattle.capi.proofs.lp586x_round.Tie as tie
 
