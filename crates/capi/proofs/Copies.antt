@@ -1,13 +1,14 @@
 -- Bytes that are copied one after the other.
 -- Assumes nothing.
 use mathlib.Core.Path.{_≡_, refl, sym, ap, subst, _∙_}
-use mathlib.Core.List.{List, _++_, append-nil}
+use mathlib.Core.List.{List, _++_, append-nil, append-assoc}
 use Prim.Native.Nat.{ℕ, _+_, _<_}
 use native.Mathlib.Nat.{zero-add}
 use native.Mathlib.Numerals.{add-one}
 use native.Mathlib.Omega.{arith}
 use lib.ListN.{length, getD, take, drop, set, length-set, length-drop, drop-of-length-le}
 use lib.Seq.{paste, paste-zero, paste-suc, take-all, getD-drop}
+use Rattle.capi.specs.Capi.{putImage}
 
 -- ---- the loops
 
@@ -47,10 +48,9 @@ part-done old xs new i n e h c =
     ∙ ap (λ (l : List ℕ). take n xs ++ l) (drop-of-length-le old {i = 0 + n} (omega arith))
     ∙ append-nil (take n xs)
 
--- the end of the list is overwritten
-pub end-done : (old xs new : List ℕ) (at i n : ℕ) → i ≡ n → length old ≡ at + n → length xs ≡ n → Copied old xs at i new → new ≡ take at old ++ xs
-end-done old xs new at i n e ho hx c =
-    copied-done old xs new at i n e c
-    ∙ ap (λ (l : List ℕ). (take at old ++ take n xs) ++ l) (drop-of-length-le old {i = at + n} (omega arith))
-    ∙ append-nil (take at old ++ take n xs)
-    ∙ ap (λ (l : List ℕ). take at old ++ l) (take-all n xs (omega arith))
+-- an image is overwritten
+pub image-done : (old xs new : List ℕ) (at i : ℕ) → i ≡ 908 → length xs ≡ 908 → Copied old xs at i new → new ≡ putImage old at xs
+image-done old xs new at i e hx c =
+    copied-done old xs new at i 908 e c
+    ∙ ap (λ (l : List ℕ). (take at old ++ l) ++ drop (at + 908) old) (take-all 908 xs (omega arith))
+    ∙ append-assoc (take at old) xs (drop (at + 908) old)

@@ -31,7 +31,7 @@ use Rattle.faults.specs.declared.Answer as faults
 use Rattle.faults.specs.Faults.{faultsAnswer, faultsResult}
 use Rattle.chip.specs.declared.Chip.{Chip}
 use Rattle.chip.specs.Chip.{chipOf, newChip, atResetOf, applyAll, feedAnswer, feedOf}
-use Rattle.capi.specs.Capi.{headerIn, settingsAt, settingsIn, imageAt, imageIn, recordIn, recordBytes, recordSize, recordSized, registersAt, chipIn, chipBytes, chipSize, whenSized, settingNumber, settingBytes, sizedNumbers, chipNumber, chipAfter, bufferAfter, faultsAnswerBy}
+use Rattle.capi.specs.Capi.{headerIn, settingsAt, settingsIn, imageAt, imageIn, recordIn, recordBytes, recordSize, recordSized, putImage, registersAt, chipIn, chipBytes, chipSize, whenSized, settingNumber, settingBytes, sizedNumbers, chipNumber, chipAfter, bufferAfter, faultsAnswerBy}
 use Rattle.capi.specs.CapiLaws.{front, settings-stored, image-stored, record-sized, record-unsized, chip-sized, chip-unsized}
 
 -- ---- parts of a list
@@ -101,11 +101,17 @@ module _ (bytes : List ℕ) (h : length bytes ≡ recordSize) where
   settings-put true new = ap (λ (l : List ℕ). take settingsAt bytes ++ (new ++ l)) (drop-drop 908 settingsAt bytes) ∙ sym (settings-stored bytes h new)
   settings-put false new = part-same settingsAt 908 bytes
 
+  -- nothing stands behind the image
+  pub image-last : (image : List ℕ) → putImage bytes imageAt image ≡ take imageAt bytes ++ image
+  image-last image =
+      ap (λ (l : List ℕ). take imageAt bytes ++ l)
+      (ap (λ (l : List ℕ). image ++ l) (drop-of-length-le bytes {i = recordSize} (omega arith)) ∙ append-nil image)
+
   pub image-put : (b : Bool) (new : List ℕ) →
       putPart imageAt 908 bytes (cond b new (imageIn bytes)) ≡ cond b (recordBytes (recordOf (headerIn bytes) (settingsIn bytes) (cond b new (imageIn bytes)))) bytes
   image-put true new =
-      ap (λ (l : List ℕ). take imageAt bytes ++ l)
-      (ap (λ (l : List ℕ). new ++ l) (drop-drop 908 imageAt bytes ∙ drop-of-length-le bytes {i = recordSize} (omega arith)) ∙ append-nil new)
+      ap (λ (l : List ℕ). take imageAt bytes ++ (new ++ l)) (drop-drop 908 imageAt bytes)
+      ∙ image-last new
       ∙ sym (image-stored bytes h new)
   image-put false new = part-same imageAt 908 bytes
 

@@ -1,3 +1,4 @@
 pub mod Copies
 pub mod InPlace
 pub mod Listed
+pub mod FourRecords

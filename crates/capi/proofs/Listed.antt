@@ -2,12 +2,12 @@
 -- Assumes nothing.
 use mathlib.Core.Path.{_≡_, refl, sym, ap, _∙_}
 use mathlib.Core.Bool.{Bool, true, false, cond, _&&_}
-use mathlib.Core.List.{List, _++_}
+use mathlib.Core.List.{List}
 use Prim.Native.Nat.{ℕ, _+_, _<_, _≤_, _^_}
 use native.Mathlib.Omega.{arith}
 use borrow.Author.Tests.{eq-eqb}
 use lib.Dec.{leb, eqb}
-use lib.ListN.{length, take}
+use lib.ListN.{length}
 use Rattle.map.specs.declared.refusals.Refusal.{Refusal}
 use Rattle.map.specs.declared.refusals.Refusal.the-variants.{BufferShort, ListSizes, Unsound, NoTransaction}
 use Rattle.map.specs.Refusals.{refusalNumber}
@@ -24,10 +24,10 @@ use Rattle.update.specs.declared.ListAnswer.{ListAnswer}
 use Rattle.update.specs.declared.ListAnswer.the-variants.{Listed, Short, Refused}
 use Rattle.update.specs.Update.{isListed, listNumber, listSize, Sending, sendAnswer, sendOf, sendBuffer, writesOf, updateAnswer, command, resetting, resetAnswer}
 use Rattle.update.specs.BoundLaws.{bus-most, writes-few, size-most}
-use Rattle.capi.specs.Capi.{headerIn, settingsIn, imageAt, imageIn, recordIn, recordBytes, recordSize, listAnswer, listBytes, bufferAfter, stored, nAfter, tAfter, neededAfter, Fits, placeNumbers}
+use Rattle.capi.specs.Capi.{headerIn, settingsIn, imageAt, imageIn, recordIn, recordBytes, recordSize, putImage, listAnswer, listBytes, bufferAfter, stored, nAfter, tAfter, neededAfter, Fits, placeNumbers}
 use Rattle.capi.specs.Calls.{transactionCall}
 use Rattle.capi.specs.CapiLaws.{image-stored, record-sized, refused-stores}
-use Rattle.capi.proofs.InPlace.{putPart, part-length, image-put}
+use Rattle.capi.proofs.InPlace.{putPart, part-length, image-last, image-put}
 
 -- ---- lists are short
 
@@ -86,16 +86,16 @@ module _ (f : Record → Sending) (bytes : List ℕ) (h : length bytes ≡ recor
 
     -- an image of the caller's own was changed, and then stored where a list was written
     pub copied-back : (image new : List ℕ) → image ≡ sendOf (held header) (f (held header)) (length buffer) .host .image →
-        new ≡ cond (isListed answer) (take imageAt bytes ++ image) bytes → new ≡ listBytes bytes (sendOf (recordIn bytes) (f (recordIn bytes)) (length buffer))
+        new ≡ cond (isListed answer) (putImage bytes imageAt image) bytes → new ≡ listBytes bytes (sendOf (recordIn bytes) (f (recordIn bytes)) (length buffer))
     unfolding sendOf recordIn
     copied-back image new ei en =
-        en ∙ ap (λ (l : List ℕ). cond (isListed answer) (take imageAt bytes ++ l) bytes)
+        en ∙ ap (λ (l : List ℕ). cond (isListed answer) (putImage bytes imageAt l) bytes)
         (ei ∙ ap (λ (x : Header). cond (isListed (sendAnswer (held x) (f (held x)) (length buffer))) (f (held x) .image) (imageIn bytes)) eh
         ∙ ap (λ (x : ListAnswer). cond (isListed x) (f (recordIn bytes) .image) (imageIn bytes)) (sym answers))
         ∙ choice (isListed answer) (cond (isListed answer) (f (recordIn bytes) .image) (imageIn bytes)) ∙ sym sent
       where
-        choice : (b : Bool) (l : List ℕ) → cond b (take imageAt bytes ++ l) bytes ≡ cond b (recordBytes (recordOf (headerIn bytes) (settingsIn bytes) l)) bytes
-        choice true l = sym (image-stored bytes h l)
+        choice : (b : Bool) (l : List ℕ) → cond b (putImage bytes imageAt l) bytes ≡ cond b (recordBytes (recordOf (headerIn bytes) (settingsIn bytes) l)) bytes
+        choice true l = image-last bytes h l ∙ sym (image-stored bytes h l)
         choice false l = refl
 
 -- a Reset puts its image into its part of the bytes

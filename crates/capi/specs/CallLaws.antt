@@ -51,7 +51,7 @@ listOutcomeOf x buffer n t = record {
 }
 
 -- stored where it was accepted, and the same as before where it was refused
-either : (b : Bool) (new old : List ℕ) → (b ≡ false → new ≡ old) → cond b new old ≡ new
+pub either : (b : Bool) (new old : List ℕ) → (b ≡ false → new ≡ old) → cond b new old ≡ new
 either true new old kept = refl
 either false new old kept = sym (kept refl)
 

@@ -1,10 +1,10 @@
 -- The C interface, include/lp586x.h: records and chips as the caller's bytes, and what a call answers and leaves in the memory that
 -- it was lent. The sentences are the header's. r is a record, c a chip, x what a call on values gives back.
 -- Assumes nothing.
-use mathlib.Core.Bool.{Bool, cond}
+use mathlib.Core.Bool.{Bool, cond, _&&_}
 use mathlib.Core.List.{List, [], _∷_, _++_}
-use Prim.Native.Nat.{ℕ, _<_, _^_}
-use lib.Dec.{eqb}
+use Prim.Native.Nat.{ℕ, _+_, _*_, _/_, _%_, _<_, _^_}
+use lib.Dec.{leb, eqb}
 use lib.ListN.{length, getD, take, drop}
 use Rattle.map.specs.declared.refusals.Answer.{Answer}
 use Rattle.map.specs.declared.refusals.Answer as answers
@@ -21,6 +21,10 @@ use Rattle.update.specs.declared.ListAnswer.{ListAnswer}
 use Rattle.update.specs.declared.ListAnswer.the-variants.{Listed, Short, Refused}
 use Rattle.update.specs.declared.Updated.{Updated}
 use Rattle.update.specs.Update.{listNumbers, listNumber, isListed}
+use Rattle.rounds.specs.declared.Headers.{Headers}
+use Rattle.rounds.specs.declared.Present.{Present}
+use Rattle.rounds.specs.declared.Records.{Records}
+use Rattle.rounds.specs.declared.Rounded.{Rounded}
 use Rattle.faults.specs.declared.Answer as faults
 use Rattle.faults.specs.Faults.{answerNumbers}
 use Rattle.chip.specs.declared.Chip.{Chip}
@@ -58,6 +62,10 @@ headerBytes h = h .member ∷ h .bus ∷ h .pins ∷ []
 unfoldable pub recordBytes : Record → List ℕ
 recordBytes r = headerBytes (r .header) ++ (r .settings ++ r .image)
 
+-- another image in the place of the one that begins at `at`
+abbrev pub putImage : List ℕ → ℕ → List ℕ → List ℕ
+putImage bytes at image = take at bytes ++ (image ++ drop (at + 908) bytes)
+
 -- "Of a chip: member, bus, pins, 908 registers.": where these begin
 abbrev pub registersAt : ℕ
 registersAt = 3
@@ -82,6 +90,57 @@ chipSize = 911
 
 unfoldable pub chipSized : List ℕ → Bool
 chipSized bytes = eqb (length bytes) chipSize
+
+-- ---- Four records
+
+-- "The records stand back to back, the one at place k for the chip with pins k.": where it begins
+abbrev pub placeAt : ℕ → ℕ
+placeAt k = recordSize * k
+
+-- the record there
+abbrev pub recordFrom : List ℕ → ℕ → Record
+recordFrom bytes k = recordIn (drop (placeAt k) bytes)
+
+-- the records that the bytes hold
+abbrev pub recordsIn : List ℕ → Records
+recordsIn bytes = record { first = recordFrom bytes 0; second = recordFrom bytes 1; third = recordFrom bytes 2; fourth = recordFrom bytes 3 }
+
+-- and their headers
+abbrev pub headersIn : List ℕ → Headers
+headersIn bytes = record {
+  first = headerIn (drop (placeAt 0) bytes);
+  second = headerIn (drop (placeAt 1) bytes);
+  third = headerIn (drop (placeAt 2) bytes);
+  fourth = headerIn (drop (placeAt 3) bytes);
+}
+
+-- the bytes of four records, one behind the other
+abbrev pub recordsBytes : Records → List ℕ
+recordsBytes r = recordBytes (r .first) ++ (recordBytes (r .second) ++ (recordBytes (r .third) ++ recordBytes (r .fourth)))
+
+-- an image at `at`, where a list was written and the record there is present
+abbrev pub keptAt : Bool → Bool → List ℕ → ℕ → List ℕ → List ℕ
+keptAt listed present bytes at image = cond (listed && present) (putImage bytes at image) bytes
+
+-- the images of the four places, one after the other
+abbrev pub keptAll : Bool → Present → List ℕ → List ℕ → List ℕ → List ℕ → List ℕ → List ℕ
+keptAll listed p bytes m0 m1 m2 m3 =
+    let one = keptAt listed (p .first) bytes (placeAt 0 + imageAt) m0 in
+    let two = keptAt listed (p .second) one (placeAt 1 + imageAt) m1 in
+    let three = keptAt listed (p .third) two (placeAt 2 + imageAt) m2 in
+    keptAt listed (p .fourth) three (placeAt 3 + imageAt) m3
+
+-- "Bit k of present says that the record at place k takes part"
+abbrev pub marked : ℕ → ℕ → Bool
+marked present k = eqb (present / 2 ^ k % 2) 1
+
+-- the marks of the four places
+abbrev pub marksIn : ℕ → Present
+marksIn present = record { first = marked present 0; second = marked present 1; third = marked present 2; fourth = marked present 3 }
+
+-- neither of "records_size, or present above 15": four records, and no mark beyond them
+unfoldable pub roundSized : List ℕ → ℕ → Bool
+roundSized bytes present = eqb (length bytes) (placeAt 4) && leb present 15
 
 -- ---- Calls that answer a number alone
 
@@ -170,6 +229,22 @@ listOutcome bytes x new buffer n t = record {
   n = nAfter (listAnswer bytes x) n;
   t = tAfter (listAnswer bytes x) t;
 }
+
+-- "14 (a present record, records_size, or present above 15)", as the answer of a round
+unfoldable pub roundAnswerBy : List ℕ → ℕ → ListAnswer → ListAnswer
+roundAnswerBy bytes present answer = cond (roundSized bytes present) answer (Refused Unsound)
+
+-- a round's outcome, by what the call on the four records gives back, x, and the buffer as that call leaves it, new
+abbrev pub roundOutcome : List ℕ → ℕ → Rounded → List ℕ → List ℕ → ℕ → ℕ → ListOutcome
+roundOutcome bytes present x new buffer n t =
+    let answer = roundAnswerBy bytes present (x .answer) in
+    record {
+      answer = listNumber answer;
+      bytes = cond (isListed answer) (recordsBytes (x .records)) bytes;
+      buffer = cond (roundSized bytes present) new buffer;
+      n = nAfter answer n;
+      t = tAfter answer t;
+    }
 
 -- every value of an answer fits the 32 bits that it is stored in
 abbrev pub Fits : ListAnswer → Type 0

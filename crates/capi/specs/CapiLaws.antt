@@ -1,14 +1,14 @@
 -- Laws of the C interface: records and chips read back from their bytes, what a refused call leaves, and what 0 stores.
 -- Assumes nothing.
-use mathlib.Core.Path.{_≡_, refl, sym, ap, _∙_}
-use mathlib.Core.Bool.{Bool, true, false, cond, false≢true}
-use mathlib.Core.List.{List, [], _∷_, _++_, append-assoc}
-use Prim.Native.Nat.{ℕ, suc, _≤_}
+use mathlib.Core.Path.{_≡_, refl, sym, ap, ap₂, _∙_}
+use mathlib.Core.Bool.{Bool, true, false, cond, _&&_, false≢true}
+use mathlib.Core.List.{List, [], _∷_, _++_, append-assoc, append-nil}
+use Prim.Native.Nat.{ℕ, suc, _+_, _≤_, _<_}
 use native.Mathlib.Omega.{arith}
-use borrow.Author.Tests.{eq-eqb, ne-eqb}
+use borrow.Author.Tests.{eq-eqb, ne-eqb, le-leb, lt-leb}
 use lib.Dec.{eqb}
 use lib.ListN.{length, getD, take, drop, length-append, length-drop, take-append-drop}
-use lib.Seq.{take-all, take-at, drop-at}
+use lib.Seq.{take-all, take-at, drop-at, take-add, drop-drop}
 use Rattle.map.specs.declared.refusals.Answer.{Answer}
 use Rattle.map.specs.declared.refusals.Answer as answers
 use Rattle.map.specs.declared.refusals.Refusal.{Refusal}
@@ -23,7 +23,7 @@ use Rattle.update.specs.declared.Updated.{Updated}
 use Rattle.update.specs.Update.{isListed, listNumber}
 use Rattle.chip.specs.declared.Chip.{Chip}
 use Rattle.chip.specs.Chip.{chipOf}
-use Rattle.capi.specs.Capi.{headerIn, settingsAt, settingsIn, imageAt, imageIn, recordIn, recordBytes, registersAt, chipIn, chipBytes, recordSize, recordSized, chipSize, chipSized, whenSized, settingNumber, settingBytes, chipNumber, chipAfter, listAnswer, listBytes, stored, nAfter, tAfter, neededAfter}
+use Rattle.capi.specs.Capi.{headerIn, settingsAt, settingsIn, imageAt, imageIn, recordIn, recordBytes, registersAt, chipIn, chipBytes, recordSize, recordSized, placeAt, recordsIn, recordsBytes, roundSized, chipSize, chipSized, whenSized, settingNumber, settingBytes, chipNumber, chipAfter, listAnswer, listBytes, stored, nAfter, tAfter, neededAfter}
 
 -- ---- the bytes read back
 
@@ -41,6 +41,15 @@ front-settings (m ∷ []) h = absurd (omega arith)
 front-settings (m ∷ b ∷ []) h = absurd (omega arith)
 front-settings (m ∷ b ∷ p ∷ rest) h = refl
 
+-- the record that the bytes begin with, with another image
+image-behind : (bytes : List ℕ) → 3 ≤ length bytes → (image : List ℕ) →
+    recordBytes (recordOf (headerIn bytes) (settingsIn bytes) image) ≡ take imageAt bytes ++ image
+unfolding headerIn recordBytes
+image-behind bytes h image =
+    sym (front bytes (settingsIn bytes ++ image) h)
+    ∙ sym (append-assoc (take settingsAt bytes) (settingsIn bytes) image)
+    ∙ ap (λ (l : List ℕ). l ++ image) (sym (front-settings bytes h))
+
 module _ (bytes : List ℕ) (h : length bytes ≡ recordSize) where
   -- the record that the bytes hold, with other settings: only their part of the bytes is another
   pub settings-stored : (settings : List ℕ) → recordBytes (recordOf (headerIn bytes) settings (imageIn bytes)) ≡ take settingsAt bytes ++ (settings ++ drop imageAt bytes)
@@ -51,11 +60,7 @@ module _ (bytes : List ℕ) (h : length bytes ≡ recordSize) where
 
   -- with another image
   pub image-stored : (image : List ℕ) → recordBytes (recordOf (headerIn bytes) (settingsIn bytes) image) ≡ take imageAt bytes ++ image
-  unfolding headerIn recordBytes
-  image-stored image =
-      sym (front bytes (settingsIn bytes ++ image) (omega arith))
-      ∙ sym (append-assoc (take settingsAt bytes) (settingsIn bytes) image)
-      ∙ ap (λ (l : List ℕ). l ++ image) (sym (front-settings bytes (omega arith)))
+  image-stored image = image-behind bytes (omega arith) image
 
   -- and with its own: bytes of the right size are those of the record that they hold
   pub record-round : recordBytes (recordIn bytes) ≡ bytes
@@ -73,13 +78,51 @@ chip-round bytes h =
     ∙ sym (front bytes (drop registersAt bytes) (omega arith))
     ∙ take-append-drop registersAt bytes
 
+-- a record with whole images
+abbrev pub Whole : Record → Type 0
+Whole r = (length (r .settings) ≡ 908) × (length (r .image) ≡ 908)
+
+-- a record is read back from bytes that begin with its own
+pub record-begins : (r : Record) → Whole r → (rest : List ℕ) → recordIn (recordBytes r ++ rest) ≡ r
+unfolding recordIn headerIn recordBytes
+record-begins r w rest =
+    ap₂ (λ (s i : List ℕ). recordOf (r .header) s (take 908 i))
+    (ap (take 908) (append-assoc (r .settings) (r .image) rest) ∙ take-at (r .settings) (r .image ++ rest) 908 (w .0))
+    (ap (drop 908) (append-assoc (r .settings) (r .image) rest) ∙ drop-at (r .settings) (r .image ++ rest) 908 (w .0))
+    ∙ ap (λ (l : List ℕ). recordOf (r .header) (r .settings) l) (take-at (r .image) rest 908 (w .1))
+
 -- a record is read back from its bytes
 pub record-back : (r : Record) → length (r .settings) ≡ 908 → length (r .image) ≡ 908 → recordIn (recordBytes r) ≡ r
-unfolding recordIn headerIn recordBytes
-record-back r hs hi =
-    ap (λ (l : List ℕ). recordOf (r .header) l (take 908 (drop 908 (r .settings ++ r .image)))) (take-at (r .settings) (r .image) 908 hs)
-    ∙ ap (λ (l : List ℕ). recordOf (r .header) (r .settings) (take 908 l)) (drop-at (r .settings) (r .image) 908 hs)
-    ∙ ap (λ (l : List ℕ). recordOf (r .header) (r .settings) l) (take-all 908 (r .image) (omega arith))
+record-back r hs hi = ap recordIn (sym (append-nil (recordBytes r))) ∙ record-begins r (hs, hi) []
+
+-- bytes begin with those of the record that they begin with
+record-first : (bytes : List ℕ) → recordSize ≤ length bytes → recordBytes (recordIn bytes) ≡ take recordSize bytes
+unfolding recordIn
+record-first bytes h = image-behind bytes (omega arith) (imageIn bytes) ∙ sym (take-add imageAt 908 bytes)
+
+-- bytes of the right size are those of the four records that they hold
+pub records-round : (bytes : List ℕ) → length bytes ≡ placeAt 4 → recordsBytes (recordsIn bytes) ≡ bytes
+records-round bytes h =
+    rw (
+      record-first (drop (placeAt 0) bytes) (omega (arith, length-drop (placeAt 0) bytes)),
+      record-first (drop (placeAt 1) bytes) (omega (arith, length-drop (placeAt 1) bytes)),
+      record-first (drop (placeAt 2) bytes) (omega (arith, length-drop (placeAt 2) bytes)),
+      record-first (drop (placeAt 3) bytes) (omega (arith, length-drop (placeAt 3) bytes)),
+    ) joined
+  where
+    rest : ℕ → List ℕ
+    rest k = drop (placeAt k) bytes
+
+    next : (k : ℕ) → take recordSize (rest k) ++ drop (placeAt k + recordSize) bytes ≡ rest k
+    next k = ap (λ (l : List ℕ). take recordSize (rest k) ++ l) (sym (drop-drop recordSize (placeAt k) bytes)) ∙ take-append-drop recordSize (rest k)
+
+    joined : take recordSize (rest 0) ++ (take recordSize (rest 1) ++ (take recordSize (rest 2) ++ take recordSize (rest 3))) ≡ bytes
+    joined =
+        ap (λ (l : List ℕ). take recordSize (rest 0) ++ (take recordSize (rest 1) ++ (take recordSize (rest 2) ++ l)))
+        (take-all recordSize (rest 3) (omega (arith, length-drop (placeAt 3) bytes)))
+        ∙ ap (λ (l : List ℕ). take recordSize (rest 0) ++ (take recordSize (rest 1) ++ l)) (next 2)
+        ∙ ap (λ (l : List ℕ). take recordSize (rest 0) ++ l) (next 1)
+        ∙ next 0
 
 -- and a chip
 pub chip-back : (c : Chip) → length (c .registers) ≡ 908 → chipIn (chipBytes c) ≡ c
@@ -103,6 +146,23 @@ chip-sized bytes h = eq-eqb (length bytes) chipSize h
 pub chip-unsized : (bytes : List ℕ) → (length bytes ≡ chipSize → ⊥) → chipSized bytes ≡ false
 unfolding chipSized
 chip-unsized bytes n = ne-eqb (length bytes) chipSize n
+
+module _ (bytes : List ℕ) (present : ℕ) where
+  pub round-sized : length bytes ≡ placeAt 4 → present ≤ 15 → roundSized bytes present ≡ true
+  unfolding roundSized
+  round-sized h p = rw (eq-eqb (length bytes) (placeAt 4) h, le-leb present 15 p) refl
+
+  pub wrong-records : (length bytes ≡ placeAt 4 → ⊥) → roundSized bytes present ≡ false
+  unfolding roundSized
+  wrong-records n = rw (ne-eqb (length bytes) (placeAt 4) n) refl
+
+  pub wrong-marks : 15 < present → roundSized bytes present ≡ false
+  unfolding roundSized
+  wrong-marks l = rw (lt-leb present 15 l) (go (eqb (length bytes) (placeAt 4)))
+    where
+      go : (b : Bool) → (b && false) ≡ false
+      go true = refl
+      go false = refl
 
 -- a record with whole images has the size of a record
 pub record-length : (r : Record) → length (r .settings) ≡ 908 → length (r .image) ≡ 908 → length (recordBytes r) ≡ recordSize

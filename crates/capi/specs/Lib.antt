@@ -3,3 +3,4 @@ pub mod Calls
 pub mod CapiLaws
 pub mod CallLaws
 pub mod TransactionLaws
+pub mod RoundLaws

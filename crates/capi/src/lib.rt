@@ -5,6 +5,7 @@
 // refusal; bytes of another size are refused as an unsound record is. A slice is a pointer and a length in C.
 mod lists;
 mod records;
+mod rounding;
 
 ghost use mathlib.Core.Path.{_≡_};
 ghost use mathlib.Core.List.{[]};
@@ -13,7 +14,7 @@ ghost use Rattle.map.specs.declared.refusals.Refusal.the-variants.{Unsound};
 ghost use Rattle.map.specs.Refusals.{refusalNumber};
 ghost use Rattle.host.specs.Record.{recordOf};
 ghost use Rattle.update.specs.Update.{updateAnswer, updateOf, updateBuffer};
-ghost use Rattle.capi.specs.Calls.{openCall, settingCall, settingNumbersCall, powerLostCall, updateCall, updateNeeded, resetCall, clearCall, transactionCall, faultsCall, chipAtResetCall, chipPowerLostCall, chipFeedCall};
+ghost use Rattle.capi.specs.Calls.{openCall, settingCall, settingNumbersCall, powerLostCall, updateCall, updateNeeded, resetCall, clearCall, roundCall, transactionCall, faultsCall, chipAtResetCall, chipPowerLostCall, chipFeedCall};
 use burst::Place;
 use calls::Setting;
 use host::Header;
@@ -25,6 +26,7 @@ use records::IMAGE;
 use records::RECORD_SIZE;
 use records::REGISTERS;
 use records::SETTINGS;
+use rounding::RECORDS_SIZE;
 use update::ListAnswer;
 
 // The answer to bytes of another size: that of an unsound record.
@@ -191,7 +193,7 @@ pub extern "C" fn lp586x_update(
         return wrong_size();
     }
     let header = records::header(bytes);
-    let mut image = records::image(bytes);
+    let mut image = records::image(bytes, IMAGE);
     let answer = update_image(
         header,
         &bytes[SETTINGS..IMAGE],
@@ -199,7 +201,7 @@ pub extern "C" fn lp586x_update(
         &mut image,
         buffer,
     );
-    lists::keep(answer, bytes, &image);
+    lists::keep(answer, bytes, IMAGE, &image);
     lists::put_needed(answer, needed);
     lists::count(answer, n, t)
 }
@@ -237,6 +239,32 @@ pub extern "C" fn lp586x_clear(bytes: &[u8], buffer: &mut [u8], n: &mut u32, t: 
     let settings = &bytes[SETTINGS..IMAGE];
     let image = &bytes[IMAGE..RECORD_SIZE];
     let answer = update::clear_parts(header, settings, image, buffer);
+    lists::count(answer, n, t)
+}
+
+#[no_mangle]
+pub extern "C" fn lp586x_round(
+    bytes: &mut [u8],
+    present: u32,
+    limit: u32,
+    buffer: &mut [u8],
+    n: &mut u32,
+    t: &mut u32,
+) -> u32
+    ensures { λ r. ⌜ r ≡ roundCall (now (bytes .entry)) present limit (now (buffer .entry)) (now (n .entry)) (now (t .entry)) .answer ⌝ }
+    ensures { λ _. ⌜ now (bytes .exit) ≡ roundCall (now (bytes .entry)) present limit (now (buffer .entry)) (now (n .entry)) (now (t .entry)) .bytes ⌝ }
+    ensures { λ _. ⌜ now (buffer .exit) ≡ roundCall (now (bytes .entry)) present limit (now (buffer .entry)) (now (n .entry)) (now (t .entry)) .buffer ⌝ }
+    ensures { λ _. ⌜ now (n .exit) ≡ roundCall (now (bytes .entry)) present limit (now (buffer .entry)) (now (n .entry)) (now (t .entry)) .n ⌝ }
+    ensures { λ _. ⌜ now (t .exit) ≡ roundCall (now (bytes .entry)) present limit (now (buffer .entry)) (now (n .entry)) (now (t .entry)) .t ⌝ }
+{
+    if bytes.len() != RECORDS_SIZE {
+        return wrong_size();
+    }
+    if present > 15 {
+        return wrong_size();
+    }
+    let marks = rounding::marks(present);
+    let answer = rounding::round(bytes, marks, limit as usize, buffer);
     lists::count(answer, n, t)
 }
 

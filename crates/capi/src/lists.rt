@@ -1,26 +1,26 @@
 // What a call stores that writes a list: the chip image, n and t, and the length needed.
 ghost use mathlib.Core.Path.{_≡_};
 ghost use mathlib.Core.Bool.{cond, _&&_};
-ghost use mathlib.Core.List.{_++_};
+ghost use Prim.Native.Nat.{_+_, _≤_};
 ghost use lib.Dec.{eqb};
-ghost use lib.ListN.{length, take};
+ghost use lib.ListN.{length};
 ghost use Rattle.map.specs.Images.{resetImage};
 ghost use Rattle.update.specs.Update.{isListed, listNumber};
-ghost use Rattle.capi.specs.Capi.{imageAt, recordSize, nAfter, tAfter, neededAfter, Fits};
+ghost use Rattle.capi.specs.Capi.{putImage, nAfter, tAfter, neededAfter, Fits};
 use crate::records;
 use host::Header;
 use map::Refusal;
 use update::ListAnswer;
 
-// The image that an update leaves.
-pub(crate) fn keep(answer: ListAnswer, bytes: &mut [u8], image: &[u8; 908])
-    requires { ⌜ (length (now bytes) ≡ recordSize) × (length (now image) ≡ 908) ⌝ }
-    ensures { λ _. ⌜ now (bytes .exit) ≡ cond (isListed answer) (take imageAt (now (bytes .entry)) ++ now (image .entry)) (now (bytes .entry)) ⌝ }
+// The image that an update or a round leaves, at `at`.
+pub(crate) fn keep(answer: ListAnswer, bytes: &mut [u8], at: usize, image: &[u8; 908])
+    requires { ⌜ (at + 908 ≤ length (now bytes)) × (length (now image) ≡ 908) ⌝ }
+    ensures { λ _. ⌜ now (bytes .exit) ≡ cond (isListed answer) (putImage (now (bytes .entry)) at (now (image .entry))) (now (bytes .entry)) ⌝ }
 {
     match answer {
-        ListAnswer::Listed { n: _, t: _ } => records::put_image(bytes, image),
+        ListAnswer::Listed { n: _, t: _ } => records::put_image(bytes, at, image),
         ListAnswer::Short { needed: _ } => {} // nothing was written
-        ListAnswer::Refused(_) => {} // the record is unsound
+        ListAnswer::Refused(_) => {} // nor where it was refused
     }
 }
 

@@ -1,11 +1,11 @@
 // Where the parts of a record and of a chip stand in the bytes that a C program keeps, and what Open puts there.
 ghost use mathlib.Core.Path.{_≡_};
-ghost use mathlib.Core.List.{_∷_, _++_};
-ghost use Prim.Native.Nat.{_<_, _≤_};
+ghost use mathlib.Core.List.{_∷_};
+ghost use Prim.Native.Nat.{_+_, _<_, _≤_};
 ghost use lib.ListN.{length, take, drop};
 ghost use Rattle.host.specs.Record.{opened};
 ghost use Rattle.chip.specs.Chip.{newChip};
-ghost use Rattle.capi.specs.Capi.{headerIn, imageAt, imageIn, recordBytes, recordSize, chipBytes, chipSize};
+ghost use Rattle.capi.specs.Capi.{headerIn, putImage, recordBytes, recordSize, chipBytes, chipSize};
 use host::Header;
 
 // Where the settings and the chip image of a record begin, and where it ends.
@@ -31,27 +31,27 @@ pub(crate) fn header(bytes: &[u8]) -> Header
     }
 }
 
-// The 908 bytes of the chip image.
-pub(crate) fn image(bytes: &[u8]) -> [u8; 908]
-    requires { ⌜ length (now bytes) ≡ recordSize ⌝ }
-    ensures { λ r. ⌜ r ≡ imageIn (now (bytes .entry)) ⌝ }
+// The 908 bytes of the chip image that begins at `at`.
+pub(crate) fn image(bytes: &[u8], at: usize) -> [u8; 908]
+    requires { ⌜ at + 908 ≤ length (now bytes) ⌝ }
+    ensures { λ r. ⌜ r ≡ take 908 (drop at (now (bytes .entry))) ⌝ }
 {
     let mut image = [0u8; 908];
     let mut i: usize = 0;
     while i < 908 {
-        image[i] = bytes[IMAGE + i];
+        image[i] = bytes[at + i];
         i += 1;
     }
     image
 }
 
-pub(crate) fn put_image(bytes: &mut [u8], image: &[u8; 908])
-    requires { ⌜ (length (now bytes) ≡ recordSize) × (length (now image) ≡ 908) ⌝ }
-    ensures { λ _. ⌜ now (bytes .exit) ≡ take imageAt (now (bytes .entry)) ++ now (image .entry) ⌝ }
+pub(crate) fn put_image(bytes: &mut [u8], at: usize, image: &[u8; 908])
+    requires { ⌜ (at + 908 ≤ length (now bytes)) × (length (now image) ≡ 908) ⌝ }
+    ensures { λ _. ⌜ now (bytes .exit) ≡ putImage (now (bytes .entry)) at (now (image .entry)) ⌝ }
 {
     let mut i: usize = 0;
     while i < 908 {
-        bytes[IMAGE + i] = image[i];
+        bytes[at + i] = image[i];
         i += 1;
     }
 }

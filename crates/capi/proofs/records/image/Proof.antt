@@ -4,16 +4,15 @@ use mathlib.Core.Path.{refl}
 use Prim.Native.Nat.{_-_, _≤_}
 use native.Mathlib.Omega.{arith}
 use lib.ListN.{drop}
-use Rattle.capi.specs.Capi.{imageAt}
 use Rattle.capi.proofs.Copies.{Copied, copied-none, part-more, part-done}
 use Rattle.capi.proofs.records.image.Statement.{statement}
 use Rattle.capi.proofs.records.image.Tie as tie
 
 abbrev Inv-loop : tie.InvT-loop
-Inv-loop bytes image₀ i₀ image i = (i ≤ 908) × Copied image₀ (drop imageAt bytes) 0 i image
+Inv-loop bytes at image₀ i₀ image i = (i ≤ 908) × Copied image₀ (drop at bytes) 0 i image
 
 abbrev μ-loop : tie.MeasureT-loop
-μ-loop bytes image₀ i₀ image i = 908 - i
+μ-loop bytes at image₀ i₀ image i = 908 - i
 
 loop-holds : tie.Need-loop-holds Inv-loop μ-loop
 loop-holds c = (omega arith, copied-none _ _ _)
@@ -34,7 +33,7 @@ loop-less : tie.Need-loop-less Inv-loop μ-loop
 loop-less c = omega arith
 
 loop-again : tie.Need-loop-again Inv-loop μ-loop
-loop-again c = (omega arith, part-more _ (c .before .before .before .args .bytes .now) _ imageAt (c .before .before .loop .i) (omega arith) (omega arith) (c .before .before .loop .inv .1))
+loop-again c = (omega arith, part-more _ (c .before .before .before .args .bytes .now) _ (c .before .before .before .args .at) (c .before .before .loop .i) (omega arith) (omega arith) (c .before .before .loop .inv .1))
 
 returns : tie.Need-returns Inv-loop μ-loop
 returns c = part-done _ _ _ (c .before .loop .i) 908 (omega arith) refl (c .before .loop .inv .1)

@@ -2,16 +2,15 @@
 -- Assumes nothing.
 use Prim.Native.Nat.{_-_, _≤_}
 use native.Mathlib.Omega.{arith}
-use Rattle.capi.specs.Capi.{imageAt}
-use Rattle.capi.proofs.Copies.{Copied, copied-none, copied-more, end-done}
+use Rattle.capi.proofs.Copies.{Copied, copied-none, copied-more, image-done}
 use Rattle.capi.proofs.records.put_image.Statement.{statement}
 use Rattle.capi.proofs.records.put_image.Tie as tie
 
 abbrev Inv-loop : tie.InvT-loop
-Inv-loop bytes₀ image i₀ bytes i = (i ≤ 908) × Copied bytes₀ image imageAt i bytes
+Inv-loop bytes₀ at image i₀ bytes i = (i ≤ 908) × Copied bytes₀ image at i bytes
 
 abbrev μ-loop : tie.MeasureT-loop
-μ-loop bytes₀ image i₀ bytes i = 908 - i
+μ-loop bytes₀ at image i₀ bytes i = 908 - i
 
 loop-holds : tie.Need-loop-holds Inv-loop μ-loop
 loop-holds c = (omega arith, copied-none _ _ _)
@@ -38,7 +37,7 @@ same-length : tie.Need-same-length Inv-loop μ-loop
 same-length c = c .before .loop .inv .1 .size
 
 returns : tie.Need-returns Inv-loop μ-loop
-returns c = end-done _ _ _ _ (c .before .loop .i) 908 (omega arith) (c .before .before .pre .0) (c .before .before .pre .1) (c .before .loop .inv .1)
+returns c = image-done _ _ _ _ (c .before .loop .i) (omega arith) (c .before .before .pre .1) (c .before .loop .inv .1)
 
 pub put-image-spec : {M : Type 1} → statement M
 put-image-spec =
