@@ -13,14 +13,18 @@ wrong-size-requires c κs = search needs
 
 returns : tie.Need-returns
 unfolding roundAnswerBy stored
-returns c = rw (wrong-records (c .before .before .before .before .args .bytes .now) (c .before .before .before .before .args .present) (c .before .if1 .taken)) (c .wrong-size .ensures, (refl, (refl, (refl, refl))))
+returns c =
+    let a = c .before .before .before .before .args in
+    rw (wrong-records (a .bytes .now) (a .present) (c .before .if1 .taken)) (c .wrong-size .ensures, (refl, (refl, (refl, refl))))
 
 wrong-size-requires-2 : tie.Need-wrong-size-requires-2
 wrong-size-requires-2 c κs = search needs
 
 returns-2 : tie.Need-returns-2
 unfolding roundAnswerBy stored
-returns-2 c = rw (wrong-marks (c .before .before .before .before .before .args .bytes .now) (c .before .before .before .before .before .args .present) (c .before .if2 .taken)) (c .wrong-size2 .ensures, (refl, (refl, (refl, refl))))
+returns-2 c =
+    let a = c .before .before .before .before .before .args in
+    rw (wrong-marks (a .bytes .now) (a .present) (c .before .if2 .taken)) (c .wrong-size2 .ensures, (refl, (refl, (refl, refl))))
 
 marks-requires : tie.Need-marks-requires
 marks-requires c κs = search needs

@@ -89,9 +89,10 @@ same-length c = search needs
 
 returns : tie.Need-returns
 returns c =
-    let a = c .before .before .before .before .before .before .before .before .before .before .before .before .before .before .before .before .before .before .before .args in
+    let headed = c .before .before .before .before .before .before .before .before .before .before .before .before .before .before .before .before in
+    let a = headed .before .before .before .args in
     let made = c .before .before .round-parts in
-    let s = sent-of (a .bytes .now) _ (c .before .before .before .before .before .before .before .before .before .before .before .before .before .before .before .before .headers .ensures) (a .present) (a .limit) (a .buffer .now) _ _ _ _ (made .ensures) in
+    let s = sent-of (a .bytes .now) _ (headed .headers .ensures) (a .present) (a .limit) (a .buffer .now) _ _ _ _ (made .ensures) in
     let kept = made .kept .1 .1 .1 .1 .1 .1 .1 .1 .1 .1 .1 in
     (s .0, (s .1 .0, (s .1 .1, (kept .0, (kept .1 .0, (kept .1 .1 .0, kept .1 .1 .1 .0))))))
 
