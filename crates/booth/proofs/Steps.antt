@@ -2,12 +2,12 @@
 -- Assumes nothing.
 use mathlib.Core.Path.{_≡_, refl, sym}
 use mathlib.Core.List.{List}
-use Prim.Native.Nat.{ℕ, zero, suc, _≤_}
-use native.Mathlib.Omega.{arith}
+use Prim.Native.Nat.{ℕ, _≤_}
 use Rattle.map.specs.declared.refusals.Numbers.{Numbers}
 use Rattle.history.specs.Step.{callNumbers}
 use Rattle.rounds.specs.declared.Present.{Present}
-use Rattle.rounds.specs.Round.{atPlace}
+use Rattle.rounds.specs.Round.{presentBy}
+use Rattle.rounds.specs.DealLaws.{at-last}
 use Rattle.bus.specs.declared.Panels.{Panels}
 use Rattle.bus.specs.declared.BusRequest.the-variants.{Round}
 use Rattle.bus.specs.declared.BusStepped.{BusStepped}
@@ -15,14 +15,7 @@ use Rattle.bus.specs.Bus.{worldAt, callOf, busLent, steppedOf}
 use Rattle.session.specs.declared.Session.{Session}
 use Rattle.booth.specs.declared.Booth.{Booth}
 use Rattle.booth.specs.declared.BoothRounded.{BoothRounded}
-use Rattle.booth.specs.Booth.{currentOf, withCurrent, presentOf, panelsIn, withPanels, roundCall, roundedBooth, roundLent}
-
--- behind the third place stands the last
-at-last : {A : Type 0} (a b c d : A) (k : ℕ) → 3 ≤ k → atPlace a b c d k ≡ d
-at-last a b c d zero h = absurd (omega arith)
-at-last a b c d (suc zero) h = absurd (omega arith)
-at-last a b c d (suc (suc zero)) h = absurd (omega arith)
-at-last a b c d (suc (suc (suc k))) h = refl
+use Rattle.booth.specs.Booth.{currentOf, withCurrent, panelsIn, withPanels, roundCall, roundedBooth, roundLent}
 
 pub current-last : (x : Booth) → 3 ≤ x .current → x .fourth ≡ currentOf x
 unfolding currentOf
@@ -34,7 +27,7 @@ unfolding withCurrent
 put-last x s h = rw (at-last {A = ℕ} 0 1 2 3 (x .current) h) refl
 
 -- a round: old is the buffer before it, new after it
-pub rounded : (x y : Booth) (marks limit : ℕ) (old new : List ℕ) (p : Present) (w : Panels) (s : BusStepped) (n : Numbers) → p ≡ presentOf marks → w ≡ panelsIn x →
+pub rounded : (x y : Booth) (marks limit : ℕ) (old new : List ℕ) (p : Present) (w : Panels) (s : BusStepped) (n : Numbers) → p ≡ presentBy marks → w ≡ panelsIn x →
     s ≡ steppedOf w (callOf (Round p limit) old) → new ≡ busLent (worldAt w) (callOf (Round p limit) old) → n ≡ callNumbers (s .answer) → y ≡ withPanels x (s .panels) →
     (record { numbers = n; booth = y } ≡ roundedBooth x marks limit old) × (new ≡ roundLent x marks limit old)
 unfolding roundCall roundedBooth roundLent

@@ -1,13 +1,12 @@
 -- Four panels in a script: "There are four panels, 0 to 3, each with its own record, chip and ledger". What stands at the places 0 to 3 is a
 -- function of the place: s is the sessions. A number above 3 names the last place.
 -- Assumes nothing.
-use mathlib.Core.Bool.{Bool, cond}
+use mathlib.Core.Bool.{cond}
 use mathlib.Core.List.{List}
-use Prim.Native.Nat.{ℕ, _/_, _%_}
+use Prim.Native.Nat.{ℕ}
 use lib.Dec.{eqb}
 use Rattle.history.specs.Step.{callNumbers}
-use Rattle.rounds.specs.declared.Present.{Present}
-use Rattle.rounds.specs.Round.{atPlace}
+use Rattle.rounds.specs.Round.{atPlace, presentBy}
 use Rattle.bus.specs.declared.Panels.{Panels}
 use Rattle.bus.specs.declared.BusRequest.the-variants.{Round}
 use Rattle.bus.specs.declared.BusStepped.{BusStepped}
@@ -43,13 +42,6 @@ selected x k = boothOf (sessionAt x) k
 
 -- ---- `round`
 
--- "bit k says that panel k is present"
-abbrev marked : ℕ → Bool
-marked n = eqb (n % 2) 1
-
-unfoldable pub presentOf : ℕ → Present
-presentOf p = record { first = marked p; second = marked (p / 2); third = marked (p / 4); fourth = marked (p / 8) }
-
 -- the records and the chips of the four panels
 abbrev pub panelsIn : Booth → Panels
 panelsIn x = record { first = x .first .world; second = x .second .world; third = x .third .world; fourth = x .fourth .world }
@@ -58,9 +50,9 @@ panelsIn x = record { first = x .first .world; second = x .second .world; third 
 unfoldable pub withPanels : Booth → Panels → Booth
 withPanels x y = boothOf (λ k. withWorld (sessionAt x k) (worldAt y k)) (x .current)
 
--- "Round of the four records, with a buffer of L bytes": the bus call, with the marks p and B
+-- "Round of the four records, with a buffer of L bytes": the bus call, with the marks p, "bit k says that panel k is present", and B
 unfoldable pub roundCall : ℕ → ℕ → List ℕ → BusCall
-roundCall p limit buffer = callOf (Round (presentOf p) limit) buffer
+roundCall p limit buffer = callOf (Round (presentBy p) limit) buffer
 
 -- what it answers, and the four panels after it. "An accepted list is fed at once to the chip of every panel k whose chip is on bus 0 with pins k"
 unfoldable pub roundedBooth : Booth → ℕ → ℕ → List ℕ → BoothRounded

@@ -1,5 +1,5 @@
--- Laws of Booth.antt about the four panels on their bus: a call of the current panel is a plain bus call at its place, the marks of a round are
--- the bits of P, the numbers of its answer have at most eleven characters, and its list has at most 4,684 bytes.
+-- Laws of Booth.antt about the four panels on their bus: a call of the current panel is a plain bus call at its place, the numbers of a
+-- round's answer have at most eleven characters, and its list has at most 4,684 bytes.
 -- Assumes nothing.
 use mathlib.Core.Path.{_≡_, refl, ap}
 use mathlib.Core.Bool.{Bool, true, false, cond, _&&_}
@@ -18,7 +18,7 @@ use Rattle.history.specs.Step.{stepOf}
 use Rattle.update.specs.declared.ListAnswer.{ListAnswer}
 use Rattle.update.specs.declared.ListAnswer.the-variants.{Listed, Refused}
 use Rattle.update.specs.Update.{isListed, listNumbers}
-use Rattle.rounds.specs.Round.{countAll, bytesAll, roundSize, leastLimit, mostLimit, everyPlace, roundParts, presentSound, presentPlaced, roundAnswer, atPlace, presentAt}
+use Rattle.rounds.specs.Round.{countAll, bytesAll, roundSize, leastLimit, mostLimit, everyPlace, roundParts, presentSound, presentPlaced, roundAnswer, atPlace, presentAt, presentBy}
 use Rattle.rounds.specs.ListLaws.{few-parts}
 use Rattle.rounds.specs.AcceptLaws.{roundMost, round-most}
 use Rattle.rounds.specs.DealLaws.{round-bytes, Takes, round-takes, parts-ready}
@@ -30,7 +30,7 @@ use Rattle.replies.specs.ReplyLaws.{numbers-most, numbers-within}
 use Rattle.session.specs.declared.Session.{Session}
 use Rattle.session.specs.Run.{alone, answered, withWorld, stepEffect, told, callEffect}
 use Rattle.booth.specs.declared.Booth.{Booth}
-use Rattle.booth.specs.Booth.{sessionAt, boothOf, currentOf, withCurrent, presentOf, panelsIn, roundCall, roundedBooth}
+use Rattle.booth.specs.Booth.{sessionAt, boothOf, currentOf, withCurrent, panelsIn, roundCall, roundedBooth}
 
 -- ---- a call
 
@@ -59,17 +59,6 @@ call-plain x q lent bytes = go (x .current) (callEffect (currentOf x) q lent byt
     go (suc (suc (suc j))) s e = rw e refl
 
 -- ---- a round
-
--- "bit k says that panel k is present"
-pub present-bit : (p k : ℕ) → k < 4 → presentAt (presentOf p) k ≡ eqb (p / 2 ^ k % 2) 1
-unfolding presentOf
-present-bit p zero h =
-    let whole : p ≡ p / 2 ^ 0 = omega arith in
-    ap (λ (n : ℕ). eqb (n % 2) 1) whole
-present-bit p (suc zero) h = refl
-present-bit p (suc (suc zero)) h = refl
-present-bit p (suc (suc (suc zero))) h = refl
-present-bit p (suc (suc (suc (suc k)))) h = absurd (omega arith)
 
 -- n and t have four digits at most
 module _ (present : ℕ → Bool) (records : ℕ → Record) (limit size : ℕ) where
@@ -127,11 +116,11 @@ module _ (present : ℕ → Bool) (records : ℕ → Record) (limit size : ℕ) 
 pub round-numbers : (x : Booth) (p limit : ℕ) (buffer : List ℕ) → length (numbersText (numbersIn (roundedBooth x p limit buffer .numbers))) ≤ 11
 unfolding roundedBooth roundCall steppedOf
 round-numbers x p limit buffer =
-    let answer = roundAnswer (presentAt (presentOf p)) (hostsOf (worldAt (panelsIn x))) limit (length buffer) in
-    omega (arith, numbers-within (listNumbers answer), answer-most (presentAt (presentOf p)) (hostsOf (worldAt (panelsIn x))) limit (length buffer))
+    let answer = roundAnswer (presentAt (presentBy p)) (hostsOf (worldAt (panelsIn x))) limit (length buffer) in
+    omega (arith, numbers-within (listNumbers answer), answer-most (presentAt (presentBy p)) (hostsOf (worldAt (panelsIn x))) limit (length buffer))
 
 -- its list fits the place of the last one
 pub round-list : (x : Booth) (p limit : ℕ) (buffer : List ℕ) →
     4 + 2 * roundedBooth x p limit buffer .numbers .first + roundedBooth x p limit buffer .numbers .second ≤ roundMost
 unfolding roundedBooth roundCall steppedOf
-round-list x p limit buffer = list-most (presentAt (presentOf p)) (hostsOf (worldAt (panelsIn x))) limit (length buffer)
+round-list x p limit buffer = list-most (presentAt (presentBy p)) (hostsOf (worldAt (panelsIn x))) limit (length buffer)

@@ -1,26 +1,13 @@
 // A round of the four panels.
 ghost use mathlib.Core.Path.{_≡_};
 ghost use Rattle.session.specs.Run.{withWorld};
-ghost use Rattle.booth.specs.Booth.{presentOf, panelsIn, withPanels, roundedBooth, roundLent};
+ghost use Rattle.booth.specs.Booth.{panelsIn, withPanels, roundedBooth, roundLent};
 use crate::Booth;
 use crate::BoothRounded;
 use bus::BusRequest;
 use bus::Panels;
 use history::World;
-use rounds::Present;
 use session::Session;
-
-// Bit k says that panel k is present.
-fn present_of(marks: usize) -> Present
-    ensures { λ r. ⌜ r ≡ presentOf marks ⌝ }
-{
-    Present {
-        first: marks % 2 == 1,
-        second: marks / 2 % 2 == 1,
-        third: marks / 4 % 2 == 1,
-        fourth: marks / 8 % 2 == 1,
-    }
-}
 
 // The records and the chips of the four places.
 fn panels_of(booth: Booth) -> Panels
@@ -64,7 +51,7 @@ pub fn round(booth: Booth, marks: usize, limit: usize, buffer: &mut [u8]) -> Boo
     ensures { λ _. ⌜ now (buffer .exit) ≡ roundLent booth marks limit (now (buffer .entry)) ⌝ }
 {
     let request = BusRequest::Round {
-        present: present_of(marks),
+        present: rounds::present_by(marks),
         limit: limit,
     };
     let stepped = bus::step(panels_of(booth), request, buffer);

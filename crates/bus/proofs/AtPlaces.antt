@@ -4,11 +4,13 @@ use mathlib.Core.Path.{_≡_, refl, sym, ap, ap₂, _∙_, subst}
 use mathlib.Core.Bool.{cond}
 use mathlib.Core.List.{List}
 use Prim.Native.Nat.{ℕ, zero, suc}
+use native.Mathlib.Omega.{arith}
 use lib.Dec.{eqb}
 use lib.ListN.{length}
 use Rattle.calls.specs.declared.Request.{Request}
 use Rattle.rounds.specs.declared.Present.{Present}
 use Rattle.rounds.specs.Round.{roundBuffer, atPlace, presentAt}
+use Rattle.rounds.specs.DealLaws.{at-last}
 use Rattle.history.specs.declared.World.{World}
 use Rattle.history.specs.declared.CallAnswer as answers
 use Rattle.history.specs.declared.Stepped.{Stepped}
@@ -23,10 +25,7 @@ use Rattle.bus.specs.Bus.{hostsOf, plain, busStep, busLent, worldAt, pan
 -- ---- the place that a number names
 
 pub last-place : {A : Type 0} (a b c d : A) (j : ℕ) → (j ≡ 0 → ⊥) → (j ≡ 1 → ⊥) → (j ≡ 2 → ⊥) → d ≡ atPlace a b c d j
-last-place a b c d zero p q r = absurd (p refl)
-last-place a b c d (suc zero) p q r = absurd (q refl)
-last-place a b c d (suc (suc zero)) p q r = absurd (r refl)
-last-place a b c d (suc (suc (suc k))) p q r = refl
+last-place a b c d j p q r = sym (at-last a b c d j (omega arith))
 
 module _ (x : Panels) where
   pub last-world : (j : ℕ) (v : World) → (j ≡ 0 → ⊥) → (j ≡ 1 → ⊥) → (j ≡ 2 → ⊥) →

@@ -19,11 +19,11 @@ use Rattle.update.specs.Update.{isListed}
 use Rattle.rounds.specs.declared.Headers.{Headers}
 use Rattle.rounds.specs.declared.Present.{Present}
 use Rattle.rounds.specs.declared.Records.{Records}
-use Rattle.rounds.specs.Round.{atPlace, presentAt, recordAt, takes, partAt, countAll, bytesAll, roundSize, leastLimit, mostLimit, everyPlace, presentSound, presentPlaced, roundParts, roundAnswer, roundBuffer, roundRecord, roundOf}
+use Rattle.rounds.specs.Round.{atPlace, presentAt, recordAt, takes, partAt, countAll, bytesAll, roundSize, leastLimit, mostLimit, everyPlace, presentSound, presentPlaced, roundParts, roundAnswer, roundBuffer, roundRecord, roundOf, presentBy}
 use Rattle.rounds.specs.ListLaws.{few-parts}
 use Rattle.rounds.specs.DealLaws.{round-takes, round-bytes, parts-ready}
 use Rattle.rounds.specs.Dealing.{recordsOf, ImagesAfter}
-use Rattle.capi.specs.Capi.{headerIn, settingsAt, imageAt, recordIn, recordBytes, recordSize, putImage, placeAt, recordFrom, recordsIn, headersIn, recordsBytes, marked, marksIn, keptAt, keptAll, roundSized, roundAnswerBy, Fits}
+use Rattle.capi.specs.Capi.{headerIn, settingsAt, imageAt, recordIn, recordBytes, recordSize, putImage, placeAt, recordFrom, recordsIn, headersIn, recordsBytes, keptAt, keptAll, roundSized, roundAnswerBy, Fits}
 use Rattle.capi.specs.CapiLaws.{Whole, record-length, records-round, round-sized}
 use Rattle.capi.proofs.InPlace.{part-length}
 
@@ -40,13 +40,6 @@ pub headers-read : (bytes : List ℕ) (a b c d : Header) → a ≡ headerIn (dro
     c ≡ headerIn (drop (placeAt 2) bytes) → d ≡ headerIn (drop (placeAt 3) bytes) →
     record { first = a; second = b; third = c; fourth = d } ≡ headersIn bytes
 headers-read bytes a b c d ea eb ec ed = rw (ea, eb, ec, ed) refl
-
-pub marks-read : (present : ℕ) →
-    record { first = eqb (present % 2) 1; second = marked present 1; third = marked present 2; fourth = marked present 3 } ≡ marksIn present
-marks-read present = ap (λ (x : ℕ). record { first = eqb (x % 2) 1; second = marked present 1; third = marked present 2; fourth = marked present 3 }) whole
-  where
-    whole : present ≡ present / 2 ^ 0
-    whole = omega arith
 
 -- a record by its parts
 part-record : (bytes : List ℕ) (at : ℕ) →
@@ -348,7 +341,7 @@ round-within r p limit size answer e = subst Fits (sym e) (round-fits (presentAt
 
 module _ (bytes : List ℕ) (present : ℕ) where
   -- on bytes of the right size, with marks of the four places
-  module _ (h : length bytes ≡ placeAt 4) (p : present ≤ 15) (marks : Present) (e : marks ≡ marksIn present) (limit : ℕ) (buffer : List ℕ) (answer : ListAnswer) (new after : List ℕ) where
+  module _ (h : length bytes ≡ placeAt 4) (p : present ≤ 15) (marks : Present) (e : marks ≡ presentBy present) (limit : ℕ) (buffer : List ℕ) (answer : ListAnswer) (new after : List ℕ) where
     abbrev Done : Present → Type 0
     Done m =
         (answer ≡ roundOf (recordsIn bytes) m limit (length buffer) .answer)
@@ -356,9 +349,9 @@ module _ (bytes : List ℕ) (present : ℕ) where
         × (after ≡ roundBuffer (presentAt m) (recordAt (recordsIn bytes)) limit buffer))
 
     pub round-called : Done marks →
-        (roundAnswerBy bytes present (roundOf (recordsIn bytes) (marksIn present) limit (length buffer) .answer) ≡ answer)
-        × ((new ≡ cond (isListed answer) (recordsBytes (roundOf (recordsIn bytes) (marksIn present) limit (length buffer) .records)) bytes)
-        × (after ≡ cond (roundSized bytes present) (roundBuffer (presentAt (marksIn present)) (recordAt (recordsIn bytes)) limit buffer) buffer))
+        (roundAnswerBy bytes present (roundOf (recordsIn bytes) (presentBy present) limit (length buffer) .answer) ≡ answer)
+        × ((new ≡ cond (isListed answer) (recordsBytes (roundOf (recordsIn bytes) (presentBy present) limit (length buffer) .records)) bytes)
+        × (after ≡ cond (roundSized bytes present) (roundBuffer (presentAt (presentBy present)) (recordAt (recordsIn bytes)) limit buffer) buffer))
     unfolding roundAnswerBy
     round-called d =
         let x = subst Done e d in

@@ -11,10 +11,10 @@ use Rattle.calls.specs.declared.Setting.{Setting}
 use Rattle.host.specs.Record.{openOf, settingOf, powerLostOf}
 use Rattle.host.specs.declared.Record.{Record}
 use Rattle.update.specs.Update.{Sending, sendOf, sendBuffer, updating, updateOf, resetting, clearing}
-use Rattle.rounds.specs.Round.{presentAt, recordAt, roundBuffer, roundOf}
+use Rattle.rounds.specs.Round.{presentAt, recordAt, roundBuffer, roundOf, presentBy}
 use Rattle.faults.specs.Faults.{faultsAnswer, faultsResult}
 use Rattle.chip.specs.Chip.{atResetOf, feedOf}
-use Rattle.capi.specs.Capi.{recordIn, chipIn, Outcome, settingOutcome, sizedNumbers, chipOutcome, listAnswer, neededAfter, ListOutcome, listOutcome, bufferAfter, recordsIn, marksIn, roundOutcome, PlaceOutcome, placeOutcome, faultsAnswerBy, FaultsOutcome, faultsOutcome}
+use Rattle.capi.specs.Capi.{recordIn, chipIn, Outcome, settingOutcome, sizedNumbers, chipOutcome, listAnswer, neededAfter, ListOutcome, listOutcome, bufferAfter, recordsIn, roundOutcome, PlaceOutcome, placeOutcome, faultsAnswerBy, FaultsOutcome, faultsOutcome}
 
 -- ---- The record and its settings
 
@@ -61,7 +61,7 @@ clearCall = sendCall clearing
 abbrev pub roundCall : List ℕ → ℕ → ℕ → List ℕ → ℕ → ℕ → ListOutcome
 roundCall bytes present limit buffer n t =
     let r = recordsIn bytes in
-    let p = marksIn present in
+    let p = presentBy present in
     roundOutcome bytes present (roundOf r p limit (length buffer)) (roundBuffer (presentAt p) (recordAt r) limit buffer) buffer n t
 
 -- lp586x_transaction

@@ -130,14 +130,6 @@ keptAll listed p bytes m0 m1 m2 m3 =
     let three = keptAt listed (p .third) two (placeAt 2 + imageAt) m2 in
     keptAt listed (p .fourth) three (placeAt 3 + imageAt) m3
 
--- "Bit k of present says that the record at place k takes part"
-abbrev pub marked : ℕ → ℕ → Bool
-marked present k = eqb (present / 2 ^ k % 2) 1
-
--- the marks of the four places
-abbrev pub marksIn : ℕ → Present
-marksIn present = record { first = marked present 0; second = marked present 1; third = marked present 2; fourth = marked present 3 }
-
 -- neither of "records_size, or present above 15": four records, and no mark beyond them
 unfoldable pub roundSized : List ℕ → ℕ → Bool
 roundSized bytes present = eqb (length bytes) (placeAt 4) && leb present 15

@@ -17,11 +17,11 @@ use Rattle.update.specs.Update.{isListed, listNumber}
 use Rattle.rounds.specs.declared.Present.{Present}
 use Rattle.rounds.specs.declared.Records.{Records}
 use Rattle.rounds.specs.declared.Rounded.{Rounded}
-use Rattle.rounds.specs.Round.{leastLimit, mostLimit, presentAt, recordAt, roundAnswer, roundBuffer, roundOf}
+use Rattle.rounds.specs.Round.{leastLimit, mostLimit, presentAt, recordAt, roundAnswer, roundBuffer, roundOf, presentBy}
 use Rattle.rounds.specs.DealLaws.{round-takes}
 use Rattle.rounds.specs.AcceptLaws.{roundMost, round-accepts}
 use Rattle.rounds.specs.AbsentLaws.{refused-kept, refused-buffer}
-use Rattle.capi.specs.Capi.{recordIn, recordBytes, recordSize, placeAt, recordsIn, recordsBytes, marksIn, roundSized, roundAnswerBy, stored, nAfter, tAfter, ListOutcome, roundOutcome}
+use Rattle.capi.specs.Capi.{recordIn, recordBytes, recordSize, placeAt, recordsIn, recordsBytes, roundSized, roundAnswerBy, stored, nAfter, tAfter, ListOutcome, roundOutcome}
 use Rattle.capi.specs.CapiLaws.{Whole, record-begins, record-back, record-length, round-sized, zero-listed, list-keeps}
 use Rattle.capi.specs.Calls.{roundCall}
 use Rattle.capi.specs.CallLaws.{either}
@@ -115,19 +115,19 @@ module _ (r : Records) (w : AllWhole r) where
   -- lp586x_round is the round on the records
   pub round-call : (present limit : ℕ) → present ≤ 15 → (buffer : List ℕ) (n t : ℕ) →
       roundCall (recordsBytes r) present limit buffer n t ≡
-      roundOutcomeOf (roundOf r (marksIn present) limit (length buffer)) (roundBuffer (presentAt (marksIn present)) (recordAt r) limit buffer) n t
+      roundOutcomeOf (roundOf r (presentBy present) limit (length buffer)) (roundBuffer (presentAt (presentBy present)) (recordAt r) limit buffer) n t
   round-call present limit h buffer n t =
       ap (λ (y : Records).
-      roundOutcome (recordsBytes r) present (roundOf y (marksIn present) limit (length buffer)) (roundBuffer (presentAt (marksIn present)) (recordAt y) limit buffer) buffer n t)
+      roundOutcome (recordsBytes r) present (roundOf y (presentBy present) limit (length buffer)) (roundBuffer (presentAt (presentBy present)) (recordAt y) limit buffer) buffer n t)
       records-back
-      ∙ round-stored present h (roundOf r (marksIn present) limit (length buffer)) (roundBuffer (presentAt (marksIn present)) (recordAt r) limit buffer) buffer n t
-      (records-kept (marksIn present) limit (length buffer))
+      ∙ round-stored present h (roundOf r (presentBy present) limit (length buffer)) (roundBuffer (presentAt (presentBy present)) (recordAt r) limit buffer) buffer n t
+      (records-kept (presentBy present) limit (length buffer))
 
 -- ---- On any bytes
 
 module _ (bytes : List ℕ) (present limit : ℕ) (buffer : List ℕ) (n t : ℕ) where
   abbrev p : Present
-  p = marksIn present
+  p = presentBy present
 
   abbrev r : Records
   r = recordsIn bytes

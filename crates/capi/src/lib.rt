@@ -263,7 +263,7 @@ pub extern "C" fn lp586x_round(
     if present > 15 {
         return wrong_size();
     }
-    let marks = rounding::marks(present);
+    let marks = rounds::present_by(present as usize);
     let answer = rounding::round(bytes, marks, limit as usize, buffer);
     lists::count(answer, n, t)
 }

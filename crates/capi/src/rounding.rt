@@ -6,7 +6,7 @@ ghost use lib.ListN.{length, drop};
 ghost use Rattle.update.specs.Update.{isListed};
 ghost use Rattle.rounds.specs.Round.{atPlace, presentAt, recordAt, roundAnswer, roundBuffer, roundOf};
 ghost use Rattle.rounds.specs.Dealing.{ImagesAfter};
-ghost use Rattle.capi.specs.Capi.{headerIn, placeAt, recordsIn, recordsBytes, headersIn, marksIn, keptAt, keptAll};
+ghost use Rattle.capi.specs.Capi.{headerIn, placeAt, recordsIn, recordsBytes, headersIn, keptAt, keptAll};
 use crate::lists;
 use crate::records;
 use crate::records::IMAGE;
@@ -37,18 +37,6 @@ const FOURTH_SETTINGS: usize = FOURTH + SETTINGS;
 const FOURTH_IMAGE: usize = FOURTH + IMAGE;
 
 pub(crate) const RECORDS_SIZE: usize = FOURTH + RECORD_SIZE;
-
-// Bit k is the mark of place k.
-pub(crate) fn marks(present: u32) -> Present
-    ensures { λ r. ⌜ r ≡ marksIn present ⌝ }
-{
-    Present {
-        first: present % 2 == 1,
-        second: present / 2 % 2 == 1,
-        third: present / 4 % 2 == 1,
-        fourth: present / 8 % 2 == 1,
-    }
-}
 
 fn header(bytes: &[u8], at: usize) -> Header
     requires { ⌜ at + 3 ≤ length (now bytes) ⌝ }

@@ -3,10 +3,10 @@
 use mathlib.Core.Path.{_≡_, refl, sym, ap, ap₂, _∙_, subst}
 use mathlib.Core.Bool.{Bool, true, false, cond, _&&_, false≢true}
 use mathlib.Core.List.{List, []}
-use Prim.Native.Nat.{ℕ, zero, suc, _+_, _*_, _≤_, _<_}
+use Prim.Native.Nat.{ℕ, zero, suc, _+_, _*_, _/_, _%_, _^_, _≤_, _<_}
 use native.Mathlib.Omega.{arith}
 use borrow.Author.Tests.{le-leb}
-use lib.Dec.{leb}
+use lib.Dec.{leb, eqb}
 use lib.ListN.{length}
 use lib.Seq.{sets}
 use Rattle.map.specs.declared.refusals.Answer as answers
@@ -27,7 +27,7 @@ use Rattle.rounds.specs.declared.Headers.{Headers}
 use Rattle.rounds.specs.declared.Present.{Present}
 use Rattle.rounds.specs.declared.Records.{Records}
 use Rattle.rounds.specs.declared.Rounded.{Rounded}
-use Rattle.rounds.specs.Round.{countAll, bytesAll, roundSize, roundList, partAt, leastLimit, mostLimit, everyPlace, takes, roundParts, presentSound, presentPlaced, roundAnswer, roundRecord, roundBuffer, roundOf, atPlace, presentAt, recordAt, roundRoom}
+use Rattle.rounds.specs.Round.{countAll, bytesAll, roundSize, roundList, partAt, leastLimit, mostLimit, everyPlace, takes, roundParts, presentSound, presentPlaced, roundAnswer, roundRecord, roundBuffer, roundOf, atPlace, presentAt, recordAt, roundRoom, marked, presentBy}
 use Rattle.rounds.specs.ListLaws.{round-length}
 use Rattle.rounds.specs.DealLaws.{Takes, round-takes, part-is}
 use Rattle.rounds.specs.AbsentLaws.{refused-kept, refused-buffer}
@@ -150,6 +150,15 @@ module _ (present : ℕ → Bool) (records : ℕ → Record) (limit : ℕ) where
       p .written ∙ rw e (sets-front (roundList parts) buffer fits),
       λ k h c. taken k h ∙ ap (storeAll (partAt parts k)) c ∙ image k h,
     )
+
+-- ---- Marks
+
+pub marks-read : (marks : ℕ) →
+    record { first = eqb (marks % 2) 1; second = marked marks 1; third = marked marks 2; fourth = marked marks 3 } ≡ presentBy marks
+marks-read marks = ap (λ (x : ℕ). record { first = eqb (x % 2) 1; second = marked marks 1; third = marked marks 2; fourth = marked marks 3 }) whole
+  where
+    whole : marks ≡ marks / 2 ^ 0
+    whole = omega arith
 
 -- ---- Four records by value
 

@@ -22,7 +22,7 @@ use Rattle.update.specs.declared.ListAnswer.{ListAnswer}
 use Rattle.update.specs.declared.ListAnswer.the-variants.{Listed, Refused}
 use Rattle.update.specs.Update.{isListed, writesOf}
 use Rattle.update.specs.BoundLaws.{names-writable}
-use Rattle.rounds.specs.Round.{bytesAll, shareOf, leftOver, deal, roomAt, countAll, roundSize, partAt, leastLimit, mostLimit, everyPlace, waiting, waitings, roundRoom, roundParts, presentSound, presentPlaced, roundAnswer}
+use Rattle.rounds.specs.Round.{bytesAll, shareOf, leftOver, deal, roomAt, countAll, roundSize, partAt, leastLimit, mostLimit, everyPlace, waiting, waitings, roundRoom, roundParts, presentSound, presentPlaced, roundAnswer, atPlace}
 use Rattle.rounds.specs.ListLaws.{AllReady}
 
 -- ---- Dealing out
@@ -87,6 +87,13 @@ none-portionable : Portionable []
 none-portionable room = subst (λ (xs : List Burst). AllData xs × AllNamed xs) (sym (portion-empty room)) (tt, tt)
 
 -- ---- Four places
+
+-- behind the third place stands the last
+pub at-last : {A : Type 0} (a b c d : A) (k : ℕ) → 3 ≤ k → atPlace a b c d k ≡ d
+at-last a b c d zero h = absurd (omega arith)
+at-last a b c d (suc zero) h = absurd (omega arith)
+at-last a b c d (suc (suc zero)) h = absurd (omega arith)
+at-last a b c d (suc (suc (suc k))) h = refl
 
 pub every-at : (f : ℕ → Bool) → everyPlace f ≡ true → (k : ℕ) → k < 4 → f k ≡ true
 every-at f e zero h = and-left (f 0) (f 1 && (f 2 && f 3)) e

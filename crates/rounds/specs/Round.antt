@@ -3,7 +3,7 @@
 -- Assumes nothing.
 use mathlib.Core.Bool.{Bool, cond, not, _&&_, _||_}
 use mathlib.Core.List.{List, [], _∷_, _++_, map}
-use Prim.Native.Nat.{ℕ, zero, suc, _+_, _-_, _*_, _/_}
+use Prim.Native.Nat.{ℕ, zero, suc, _+_, _-_, _*_, _/_, _%_, _^_}
 use lib.Dec.{leb, eqb}
 use lib.ListN.{length}
 use Rattle.map.specs.declared.refusals.Refusal.the-variants.{BufferShort, Unsound, RoundLimit, NotItsPlace}
@@ -146,6 +146,13 @@ atPlace a b c d zero = a
 atPlace a b c d (suc zero) = b
 atPlace a b c d (suc (suc zero)) = c
 atPlace a b c d (suc (suc (suc k))) = d
+
+-- marks as one number: "bit k of `present` is place k"
+abbrev pub marked : ℕ → ℕ → Bool
+marked marks k = eqb (marks / 2 ^ k % 2) 1
+
+abbrev pub presentBy : ℕ → Present
+presentBy marks = record { first = marked marks 0; second = marked marks 1; third = marked marks 2; fourth = marked marks 3 }
 
 abbrev pub presentAt : Present → ℕ → Bool
 presentAt p = atPlace (p .first) (p .second) (p .third) (p .fourth)

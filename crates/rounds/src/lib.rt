@@ -8,7 +8,7 @@ mod writing;
 ghost use mathlib.Core.Path.{_≡_};
 ghost use lib.ListN.{length};
 ghost use Rattle.host.specs.Record.{recordOf};
-ghost use Rattle.rounds.specs.Round.{atPlace, presentAt, recordAt, roundAnswer, roundBuffer, roundOf};
+ghost use Rattle.rounds.specs.Round.{atPlace, presentBy, presentAt, recordAt, roundAnswer, roundBuffer, roundOf};
 ghost use Rattle.rounds.specs.Dealing.{recordsOf, ImagesAfter};
 use host::Header;
 use host::Record;
@@ -42,6 +42,18 @@ pub struct Records {
 pub struct Rounded {
     pub answer: ListAnswer,
     pub records: Records,
+}
+
+// Bit k of the marks says that place k is present.
+pub fn present_by(marks: usize) -> Present
+    ensures { λ r. ⌜ r ≡ presentBy marks ⌝ }
+{
+    Present {
+        first: marks % 2 == 1,
+        second: marks / 2 % 2 == 1,
+        third: marks / 4 % 2 == 1,
+        fourth: marks / 8 % 2 == 1,
+    }
 }
 
 // A round on lent images: s0 to s3 are the settings of the four places and i0 to i3 their chip images; m0 to m3 are copies of the chip

@@ -26,8 +26,8 @@ returns-2 c =
     let a = c .before .before .before .before .before .args in
     rw (wrong-marks (a .bytes .now) (a .present) (c .before .if2 .taken)) (c .wrong-size2 .ensures, (refl, (refl, (refl, refl))))
 
-marks-requires : tie.Need-marks-requires
-marks-requires c κs = search needs
+present-by-requires : tie.Need-present-by-requires
+present-by-requires c κs = search needs
 
 round-requires : tie.Need-round-requires
 round-requires c κs = search needs
@@ -48,7 +48,7 @@ returns-3 c =
     let begun = marked .before .before .before .before .before in
     let a = begun .args in
     let x =
-    round-called (a .bytes .now) (a .present) (marked .before .before .if1 .left) (marked .before .if2 .left) _ (marked .marks .ensures) (a .limit) (a .buffer .now) _ _ _ (made .round .ensures) in
+    round-called (a .bytes .now) (a .present) (marked .before .before .if1 .left) (marked .before .if2 .left) _ (marked .present-by .ensures) (a .limit) (a .buffer .now) _ _ _ (made .round .ensures) in
     rw (x .0) (c .count .ensures .0, (x .1 .0, (x .1 .1, (c .count .ensures .1 .0, c .count .ensures .1 .1))))
 
 pub lp586x-round-spec : {M : Type 1} → statement M
@@ -59,7 +59,7 @@ lp586x-round-spec =
     returns
     wrong-size-requires-2
     returns-2
-    marks-requires
+    present-by-requires
     round-requires
     count-requires
     same-length

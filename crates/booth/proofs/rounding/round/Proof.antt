@@ -5,8 +5,8 @@ use borrow.Author.Needs.{needs}
 use Rattle.booth.proofs.rounding.round.Statement.{statement}
 use Rattle.booth.proofs.rounding.round.Tie as tie
 
-present-of-requires : tie.Need-present-of-requires
-present-of-requires c κs = search needs
+present-by-requires : tie.Need-present-by-requires
+present-by-requires c κs = search needs
 
 panels-of-requires : tie.Need-panels-of-requires
 panels-of-requires c κs = search needs
@@ -28,14 +28,14 @@ returns c =
     let numbered = c .before in
     let stepped = numbered .before .before .before .before in
     let parted = stepped .before .before in
-    rounded _ _ _ _ _ _ _ _ _ _ (parted .before .present-of .ensures) (parted .panels-of .ensures) (stepped .step .ensures .0) (stepped .step .ensures .1)
+    rounded _ _ _ _ _ _ _ _ _ _ (parted .before .present-by .ensures) (parted .panels-of .ensures) (stepped .step .ensures .0) (stepped .step .ensures .1)
     (numbered .call-numbers .ensures) (c .with-panels .ensures)
 
 pub round-spec : {M : Type 1} → statement M
 round-spec =
     tie.close
     (tie.spec
-    present-of-requires
+    present-by-requires
     panels-of-requires
     step-requires
     call-numbers-requires
