@@ -1,13 +1,13 @@
 -- The player's steps, over plain values.
 -- Assumes nothing.
-use mathlib.Core.Path.{_≡_, refl, sym, ap, _∙_}
+use mathlib.Core.Path.{_≡_, refl, sym, ap, _∙_, subst}
 use mathlib.Core.Bool.{Bool, true, false, cond, not, _&&_}
 use mathlib.Core.List.{List, [], _∷_}
 use Prim.Native.Nat.{ℕ, _+_, _*_, _≤_, _<_}
 use native.Mathlib.Omega.{arith}
 use borrow.Author.Tests.{lt-ltb, le-ltb, le-leb, lt-leb, eq-eqb, ne-eqb}
 use lib.Dec.{ltb, leb, eqb}
-use lib.ListN.{length, take, replicate, length-take}
+use lib.ListN.{length, take, replicate, length-take, length-replicate}
 use lib.Seq.{take-length, take-all}
 use Rattle.map.specs.declared.refusals.Numbers as numbers
 use Rattle.map.specs.declared.refusals.Refusal.{Refusal}
@@ -111,16 +111,22 @@ module _ (p : Player) (k : ℕ) (shown : List ℕ) (bus : ℕ) where
   unfolding keeping
   keep-put new n z h put = rw (lt-ltb 0 k (omega arith), le-leb k (length shown) h, put .buffer, put .place) refl
 
--- ---- a command: e is the buffer after it
+-- ---- the buffer that is lent
 
-pub command-played : (p : Player) (s : Session) (c : Command) (l e : List ℕ) (r : Outcome) (b : Booth) (old new : List ℕ) (at n k : ℕ) (q : Player) →
-    Run c ≡ lineOf l → s ≡ currentOf (p .booth) → length e ≡ 8192 → Does r e (effectOf s c l freshBuffer) → b ≡ withCurrent (p .booth) (r .session) →
+pub fresh-length : (f : List ℕ) → f ≡ freshBuffer → length f ≡ 8192
+unfolding freshBuffer
+fresh-length f e = ap length e ∙ length-replicate {A = ℕ} 8192 0xA5
+
+-- ---- a command: f is the buffer before it and e after it
+
+pub command-played : (p : Player) (s : Session) (c : Command) (l f e : List ℕ) (r : Outcome) (b : Booth) (old new : List ℕ) (at n k : ℕ) (q : Player) →
+    f ≡ freshBuffer → Run c ≡ lineOf l → s ≡ currentOf (p .booth) → length e ≡ 8192 → Does r e (effectOf s c l f) → b ≡ withCurrent (p .booth) (r .session) →
     Puts old at (replyLine (r .reply) (take (r .shown) e)) new n → k ≡ keptSize c (r .reply) →
     q ≡ keeping (withBooth p b) k (take (r .shown) e) (r .session .world .host .header .bus) →
     (q ≡ afterCommand p c l) × (Puts old at (commandLine p c l) new n × (length (commandLine p c l) ≤ longestText))
 unfolding afterCommand afterEffect commandLine effect sessionOf withSession
-command-played p s c l e r b old new at n k q is es h d eb put ek eq =
-    let said = replies s c l freshBuffer is r e h d in
+command-played p s c l f e r b old new at n k q ef is es h d eb put ek eq =
+    let said = replies s c l freshBuffer is r e h (subst (λ (x : List ℕ). Does r e (effectOf s c l x)) ef d) in
     rw (← es) (
       eq ∙ rw (eb, ek) refl ∙ ap (afterEffect p c) (said .effect-is),
       (puts-as old at _ _ new n (said .line) put, omega (arith, said .most)),
@@ -128,15 +134,17 @@ command-played p s c l e r b old new at n k q is es h d eb put ek eq =
 
 -- ---- a round: e is the buffer after it, of which the first k bytes were lent
 
-pub round-put : (p : Player) (m limit k : ℕ) (e : List ℕ) (r : BoothRounded) (old new : List ℕ) (at n size : ℕ) (q : Player) → length e ≡ 8192 →
-    r ≡ roundedBooth (p .booth) m limit (take k freshBuffer) → take k e ≡ roundLent (p .booth) m limit (take k freshBuffer) →
+pub round-put : (p : Player) (m limit k : ℕ) (f e : List ℕ) (r : BoothRounded) (old new : List ℕ) (at n size : ℕ) (q : Player) → f ≡ freshBuffer → length e ≡ 8192 →
+    r ≡ roundedBooth (p .booth) m limit (take k f) → take k e ≡ roundLent (p .booth) m limit (take k f) →
     Puts old at (replyLine (Lent (r .numbers)) (take k e)) new n → size ≡ sizeBy (r .numbers) → q ≡ keeping (withBooth p (r .booth)) size (take k e) 0 →
     (q ≡ afterRound p m limit k) × (Puts old at (roundLine p m limit k) new n × (length (roundLine p m limit k) ≤ longestText))
 unfolding afterRound roundLine rounded roundShown
-round-put p m limit k e r old new at n size q h er el put es eq = (
-  eq ∙ rw (es, el, er) refl,
-  (rw (← er, ← el) put, round-most p m limit k (rw (← el) (omega (arith, length-take k e)))),
-)
+round-put p m limit k f e r old new at n size q ef h er₀ el₀ put es eq =
+    let er = er₀ ∙ ap (λ (x : List ℕ). roundedBooth (p .booth) m limit (take k x)) ef in
+    let el = el₀ ∙ ap (λ (x : List ℕ). roundLent (p .booth) m limit (take k x)) ef in (
+      eq ∙ rw (es, el, er) refl,
+      (rw (← er, ← el) put, round-most p m limit k (rw (← el) (omega (arith, length-take k e)))),
+    )
 
 -- ---- asides
 

@@ -7,6 +7,7 @@ ghost use Rattle.booth.specs.Booth.{roundedBooth, roundLent};
 ghost use Rattle.player.specs.Play.{zeroLine, afterPanel, roundLine, afterRound, longestText};
 use crate::Played;
 use crate::Player;
+use crate::running::fresh_buffer;
 use crate::running::keep;
 use crate::running::size_by;
 use booth::Booth;
@@ -54,7 +55,7 @@ pub(crate) fn round(
     ensures { λ r. ⌜ Puts (now (text .entry)) at (roundLine player marks limit room) (now (text .exit)) (r .at) ⌝ }
     ensures { λ _. ⌜ length (roundLine player marks limit room) ≤ longestText ⌝ }
 {
-    let mut buffer = [0xA5u8; session::ROOM];
+    let mut buffer = fresh_buffer();
     let rounded = round_within(player.booth, marks, limit, room, &mut buffer);
     let numbers = rounded.numbers;
     let booth = rounded.booth;

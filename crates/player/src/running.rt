@@ -5,7 +5,7 @@ ghost use lib.ListN.{length};
 ghost use Rattle.text.specs.Text.{Puts};
 ghost use Rattle.script.specs.declared.command.Line.the-variants.{Run};
 ghost use Rattle.script.specs.Lines.{lineOf};
-ghost use Rattle.player.specs.Play.{isRoom, writesList, sizeBy, listedSize, keptSize, keeping, commandLine, afterCommand, longestText};
+ghost use Rattle.player.specs.Play.{isRoom, writesList, sizeBy, listedSize, keptSize, keeping, commandLine, afterCommand, longestText, freshBuffer};
 use crate::Played;
 use crate::Player;
 use map::Numbers;
@@ -97,6 +97,13 @@ pub(crate) fn keep(mut player: Player, size: usize, shown: &[u8], bus: usize) ->
     player
 }
 
+// "A buffer of L bytes .. is lent filled with A5h": the first L bytes of this.
+pub(crate) fn fresh_buffer() -> [u8; session::ROOM]
+    ensures { λ r. ⌜ r ≡ freshBuffer ⌝ }
+{
+    [0xA5; session::ROOM]
+}
+
 // The command is the line's.
 pub(crate) fn run(
     mut player: Player,
@@ -110,7 +117,7 @@ pub(crate) fn run(
     ensures { λ r. ⌜ Puts (now (text .entry)) at (commandLine player command (now (line .entry))) (now (text .exit)) (r .at) ⌝ }
     ensures { λ _. ⌜ length (commandLine player command (now (line .entry))) ≤ longestText ⌝ }
 {
-    let mut buffer = [0xA5u8; session::ROOM];
+    let mut buffer = fresh_buffer();
     let session = booth::current_session(player.booth);
     let outcome = session::run(session, command, line, &mut buffer);
     let reply = outcome.reply;

@@ -1,12 +1,15 @@
 -- `player::running::run` meets its contract.
 -- Assumes nothing.
-use mathlib.Core.Path.{sym}
+use mathlib.Core.Path.{sym, _∙_}
 use lib.Seq.{length-take-le}
-use Rattle.player.specs.Play.{withBooth, freshBuffer}
-use Rattle.player.proofs.Steps.{command-played}
+use Rattle.player.specs.Play.{withBooth}
+use Rattle.player.proofs.Steps.{fresh-length, command-played}
 use borrow.Author.Needs.{needs}
 use Rattle.player.proofs.running.run.Statement.{statement}
 use Rattle.player.proofs.running.run.Tie as tie
+
+fresh-buffer-requires : tie.Need-fresh-buffer-requires
+fresh-buffer-requires c κs = search needs
 
 current-session-requires : tie.Need-current-session-requires
 current-session-requires c κs = search needs
@@ -48,20 +51,22 @@ same-length : tie.Need-same-length
 same-length c = search needs
 
 returns : tie.Need-returns
-unfolding withBooth freshBuffer
+unfolding withBooth
 returns c =
     let sized = c .before .before .before in
     let put = sized .before .before .before in
     let moved = put .before .before .before in
     let ran = moved .before .before .before in
     let found = ran .before .before in
-    command-played _ _ _ _ _ _ _ _ _ _ _ _ _ (found .before .before .before .pre) (found .current-session .ensures) (ran .run .kept .1 .1 .1 .0)
+    command-played _ _ _ _ _ _ _ _ _ _ _ _ _ _ (found .before .fresh-buffer .ensures) (found .before .before .before .before .pre) (found .current-session .ensures)
+    (ran .run .kept .1 .1 .1 .0 ∙ fresh-length _ (found .before .fresh-buffer .ensures))
     (ran .run .ensures) (moved .with-current .ensures) (put .put-line .ensures) (sized .kept-size .ensures) (c .keep .ensures)
 
 pub run-spec : {M : Type 1} → statement M
 run-spec =
     tie.close
     (tie.spec
+    fresh-buffer-requires
     current-session-requires
     slice-aggregate-run
     run-requires
