@@ -14,7 +14,6 @@ use Rattle.bus.specs.declared.BusStepped.{BusStepped}
 use Rattle.bus.specs.Bus.{worldAt, callOf, busLent, steppedOf}
 use Rattle.session.specs.declared.Session.{Session}
 use Rattle.booth.specs.declared.Booth.{Booth}
-use Rattle.booth.specs.declared.BoothRounded.{BoothRounded}
 use Rattle.booth.specs.Booth.{currentOf, withCurrent, panelsIn, withPanels, roundCall, roundedBooth, roundLent}
 
 pub current-last : (x : Booth) → 3 ≤ x .current → x .fourth ≡ currentOf x

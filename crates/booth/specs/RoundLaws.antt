@@ -1,10 +1,10 @@
 -- Laws of Booth.antt about the four panels on their bus: a call of the current panel is a plain bus call at its place, the numbers of a
 -- round's answer have at most eleven characters, and its list has at most 4,684 bytes.
 -- Assumes nothing.
-use mathlib.Core.Path.{_≡_, refl, ap}
+use mathlib.Core.Path.{_≡_, refl}
 use mathlib.Core.Bool.{Bool, true, false, cond, _&&_}
 use mathlib.Core.List.{List, [], _∷_}
-use Prim.Native.Nat.{ℕ, zero, suc, _+_, _*_, _/_, _%_, _^_, _≤_, _<_}
+use Prim.Native.Nat.{ℕ, zero, suc, _+_, _*_, _≤_, _<_}
 use native.Mathlib.Omega.{arith}
 use lib.Dec.{eqb, leb}
 use lib.ListN.{length}
@@ -18,7 +18,7 @@ use Rattle.history.specs.Step.{stepOf}
 use Rattle.update.specs.declared.ListAnswer.{ListAnswer}
 use Rattle.update.specs.declared.ListAnswer.the-variants.{Listed, Refused}
 use Rattle.update.specs.Update.{isListed, listNumbers}
-use Rattle.rounds.specs.Round.{countAll, bytesAll, roundSize, leastLimit, mostLimit, everyPlace, roundParts, presentSound, presentPlaced, roundAnswer, atPlace, presentAt, presentBy}
+use Rattle.rounds.specs.Round.{countAll, bytesAll, roundSize, leastLimit, mostLimit, everyPlace, roundParts, presentSound, presentPlaced, roundAnswer, presentAt, presentBy}
 use Rattle.rounds.specs.ListLaws.{few-parts}
 use Rattle.rounds.specs.AcceptLaws.{roundMost, round-most}
 use Rattle.rounds.specs.DealLaws.{round-bytes, Takes, round-takes, parts-ready}

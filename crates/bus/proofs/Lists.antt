@@ -2,7 +2,7 @@
 -- Assumes nothing.
 use mathlib.Core.Path.{_≡_, refl, sym, ap, ap₂, _∙_, subst}
 use mathlib.Core.Bool.{Bool, true, false, cond, _&&_}
-use mathlib.Core.List.{List, _++_}
+use mathlib.Core.List.{List}
 use Prim.Native.Nat.{ℕ, zero, suc, _+_, _*_, _≤_, _<_}
 use native.Mathlib.Omega.{arith}
 use lib.ListN.{length, take, drop, length-append, length-drop}
@@ -12,20 +12,18 @@ use Rattle.update.specs.declared.ListAnswer.{ListAnswer}
 use Rattle.update.specs.declared.ListAnswer.the-variants.{Listed, Short, Refused}
 use Rattle.update.specs.Update.{isListed, over}
 use Rattle.host.specs.declared.Record.{Record}
-use Rattle.chip.specs.declared.Chip.{Chip}
 use Rattle.chip.specs.Chip.{feedOf}
 use Rattle.rounds.specs.declared.Present.{Present}
 use Rattle.rounds.specs.declared.Records.{Records}
 use Rattle.rounds.specs.declared.Rounded.{Rounded}
-use Rattle.rounds.specs.Round.{roundList, roundParts, roundAnswer, roundRecord, roundBuffer, roundOf, presentAt, recordAt, takes, partAt, countAll, bytesAll, roundSize}
+use Rattle.rounds.specs.Round.{roundList, roundParts, roundAnswer, roundRecord, roundBuffer, roundOf, presentAt, recordAt, takes, partAt, countAll, bytesAll}
 use Rattle.rounds.specs.ListLaws.{round-length}
 use Rattle.rounds.specs.DealLaws.{round-takes}
 use Rattle.rounds.specs.AbsentLaws.{parts-same, answer-same, buffer-same, refused-kept}
 use Rattle.history.specs.declared.World.{World}
 use Rattle.history.specs.Step.{listIn, Within}
 use Rattle.bus.specs.declared.Panels.{Panels}
-use Rattle.bus.specs.declared.BusRounded.{BusRounded}
-use Rattle.bus.specs.Bus.{hostsOf, onBus, accepts, roundChip, roundWorld, worldAt, panelsOf, recordsIn, roundedOf, heardBy, allHear, heardList}
+use Rattle.bus.specs.Bus.{hostsOf, onBus, roundWorld, worldAt, panelsOf, recordsIn, roundedOf, heardBy, allHear, heardList}
 
 -- ---- room
 

@@ -1,12 +1,11 @@
 -- The player's steps, over plain values.
 -- Assumes nothing.
 use mathlib.Core.Path.{_≡_, refl, sym, ap, _∙_, subst}
-use mathlib.Core.Bool.{Bool, true, false, cond, not, _&&_}
+use mathlib.Core.Bool.{Bool, true, false}
 use mathlib.Core.List.{List, [], _∷_}
 use Prim.Native.Nat.{ℕ, _+_, _*_, _≤_, _<_}
 use native.Mathlib.Omega.{arith}
 use borrow.Author.Tests.{lt-ltb, le-ltb, le-leb, lt-leb, eq-eqb, ne-eqb}
-use lib.Dec.{ltb, leb, eqb}
 use lib.ListN.{length, take, replicate, length-take, length-replicate}
 use lib.Seq.{take-length, take-all}
 use Rattle.map.specs.declared.refusals.Numbers as numbers
@@ -29,7 +28,7 @@ use Rattle.listing.specs.Show.{listText}
 use Rattle.pictures.specs.Pictures.{faultsText, differencesText}
 use Rattle.session.specs.declared.outcomes.Outcome.{Outcome}
 use Rattle.session.specs.declared.Session.{Session}
-use Rattle.session.specs.Run.{Effect, Does, effectOf}
+use Rattle.session.specs.Run.{Does, effectOf}
 use Rattle.session.specs.LengthLaws.{replies}
 use Rattle.booth.specs.declared.Booth.{Booth}
 use Rattle.booth.specs.declared.BoothRounded.{BoothRounded}

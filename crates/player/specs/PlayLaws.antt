@@ -28,7 +28,7 @@ use Rattle.script.specs.Lines.{withoutCr, isSilent}
 use Rattle.replies.specs.Replies.{numbersText, lentText, replyText, replyLine, echoLine}
 use Rattle.listing.specs.Show.{listText}
 use Rattle.listing.specs.ShowLaws.{list-short}
-use Rattle.pictures.specs.Pictures.{lampsText, faultsText, differencesText}
+use Rattle.pictures.specs.Pictures.{differencesText}
 use Rattle.pictures.specs.PictureLaws.{lamps-most, faults-most, differences-most}
 use Rattle.session.specs.declared.Session.{Session}
 use Rattle.booth.specs.RoundLaws.{round-numbers, round-list}

@@ -11,7 +11,7 @@ ghost use mathlib.Core.Path.{_≡_};
 ghost use Prim.Native.Nat.{_≤_};
 ghost use lib.ListN.{length};
 ghost use Rattle.text.specs.Text.{Puts};
-ghost use Rattle.player.specs.Play.{fresh, countedFrom, counted, echoText, lineText, afterLine, playerAfter, printed, longestText, longestLine};
+ghost use Rattle.player.specs.Play.{fresh, countedFrom, counted, lineText, afterLine, playerAfter, printed, longestText, longestLine};
 use booth::Booth;
 use script::Line;
 

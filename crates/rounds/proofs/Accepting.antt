@@ -1,19 +1,18 @@
 -- What a round answers by its refusals and by what was dealt out, and what it leaves.
 -- Assumes nothing.
 use mathlib.Core.Path.{_≡_, refl, sym, ap, ap₂, _∙_, subst}
-use mathlib.Core.Bool.{Bool, true, false, cond, _&&_, false≢true}
+use mathlib.Core.Bool.{Bool, true, false, cond, _&&_}
 use mathlib.Core.List.{List, []}
 use Prim.Native.Nat.{ℕ, zero, suc, _+_, _*_, _/_, _%_, _^_, _≤_, _<_}
 use native.Mathlib.Omega.{arith}
 use borrow.Author.Tests.{le-leb}
 use lib.Dec.{leb, eqb}
 use lib.ListN.{length}
-use lib.Seq.{sets}
 use Rattle.map.specs.declared.refusals.Answer as answers
 use Rattle.map.specs.declared.refusals.Refusal.{Refusal}
 use Rattle.map.specs.declared.refusals.Refusal.the-variants.{BufferShort, Unsound, RoundLimit, NotItsPlace}
 use Rattle.map.specs.KindTable.{kindTable}
-use Rattle.burst.specs.Burst.{Burst, busBytes}
+use Rattle.burst.specs.Burst.{Burst}
 use Rattle.plan.specs.Update.{storeAll}
 use Rattle.host.specs.declared.Record.{Record}
 use Rattle.host.specs.Record.{recordOf}
@@ -21,7 +20,7 @@ use Rattle.host.specs.SoundLaws.{sound-is}
 use Rattle.writes.specs.WrittenLaws.{sets-front}
 use Rattle.update.specs.declared.ListAnswer.{ListAnswer}
 use Rattle.update.specs.declared.ListAnswer.the-variants.{Listed, Refused}
-use Rattle.update.specs.Update.{isListed, over}
+use Rattle.update.specs.Update.{isListed}
 use Rattle.rounds.specs.declared.dealing.Dealt.{Dealt}
 use Rattle.rounds.specs.declared.Headers.{Headers}
 use Rattle.rounds.specs.declared.Present.{Present}

@@ -1,6 +1,6 @@
 -- The loop that writes a part of a list.
 -- Assumes nothing.
-use mathlib.Core.Path.{_≡_, refl, sym, ap, _∙_, subst}
+use mathlib.Core.Path.{_≡_, sym, ap, _∙_}
 use mathlib.Core.Logic.{_⊎_, inl, inr}
 use mathlib.Core.List.{List, [], _++_, map}
 use Prim.Native.Nat.{ℕ, _+_, _-_, _*_, _≤_, _<_}
@@ -8,7 +8,7 @@ use native.Mathlib.Omega.{arith}
 use lib.ListN.{length, take, drop, length-append, length-map}
 use lib.Seq.{sets}
 use Rattle.burst.specs.Burst.{Burst, putSize, sizesBytes, joined, transactionOf}
-use Rattle.plan.specs.Plan.{Write, cost}
+use Rattle.plan.specs.Plan.{Write}
 use Rattle.plan.specs.NextLaws.{one}
 use Rattle.plan.specs.Update.{dataOf, storeAll}
 use Rattle.plan.specs.Portion.{portion}

@@ -1,9 +1,9 @@
 -- How B is dealt out among four places.
 -- Assumes nothing.
-use mathlib.Core.Path.{_≡_, refl, sym, ap, ap₂, _∙_, subst}
+use mathlib.Core.Path.{_≡_, sym, ap, ap₂, _∙_, subst}
 use mathlib.Core.Bool.{Bool, true, false}
 use mathlib.Core.List.{List, [], _∷_}
-use Prim.Native.Nat.{ℕ, _+_, _-_, _*_, _≤_, _<_}
+use Prim.Native.Nat.{ℕ, _+_, _-_, _*_, _≤_}
 use native.Mathlib.Omega.{arith}
 use lib.ListN.{length}
 use Rattle.burst.specs.Burst.{Burst, busBytes}
@@ -17,7 +17,7 @@ use Rattle.writes.specs.declared.scan.Matrix.{Matrix}
 use Rattle.writes.specs.Marks.{matrixOf}
 use Rattle.update.specs.Update.{writesOf}
 use Rattle.rounds.specs.declared.dealing.Firsts.{Firsts}
-use Rattle.rounds.specs.Round.{shareOf, leftOver, deal, countAll, bytesAll, partAt, waiting, roundParts}
+use Rattle.rounds.specs.Round.{shareOf, leftOver, deal, countAll, partAt, waiting, roundParts}
 use Rattle.rounds.specs.Parts.{Scanned, Sized}
 use Rattle.rounds.specs.Dealing.{waitingOf, Waits, FirstAre, DealtAre}
 

@@ -7,7 +7,7 @@ use mathlib.Core.List.{List, [], _∷_}
 use Prim.Native.Nat.{ℕ, _+_, _-_, _≤_, _<_}
 use native.Mathlib.Omega.{arith}
 use borrow.Author.Tests.{eq-eqb, le-leb}
-use lib.Dec.{leb, eqb}
+use lib.Dec.{eqb}
 use Rattle.burst.specs.Burst.{Burst, busBytes}
 use Rattle.plan.specs.Portion.{portion}
 use Rattle.plan.specs.PortionLaws.{portion-begins, begins-bytes}

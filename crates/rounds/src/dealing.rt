@@ -2,7 +2,6 @@
 ghost use mathlib.Core.Path.{_≡_};
 ghost use Prim.Native.Nat.{_+_, _-_, _*_, _/_, _≤_};
 ghost use Rattle.plan.specs.Portion.{portion};
-ghost use Rattle.burst.specs.Burst.{busBytes};
 ghost use Rattle.host.specs.Record.{recordOf};
 ghost use Rattle.rounds.specs.Round.{shareOf, presentAt};
 ghost use Rattle.rounds.specs.Parts.{Sized};

@@ -8,7 +8,7 @@ ghost use Rattle.map.specs.declared.refusals.Refusal.the-variants.{BufferShort}
 ghost use Rattle.update.specs.declared.ListAnswer.the-variants.{Listed, Refused};
 ghost use Rattle.update.specs.Update.{isListed};
 ghost use Rattle.rounds.specs.Round.{presentAt, roundAnswer};
-ghost use Rattle.rounds.specs.Dealing.{recordsOf, AllWait, DealtAre, dealtTotal};
+ghost use Rattle.rounds.specs.Dealing.{recordsOf, DealtAre, dealtTotal};
 use crate::Headers;
 use crate::Present;
 use crate::dealing;

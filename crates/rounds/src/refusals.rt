@@ -1,7 +1,7 @@
 // What a round refuses before it looks at what waits: 14, 15 and 16, in this order.
 ghost use mathlib.Core.Path.{_≡_};
 ghost use mathlib.Core.Bool.{not, _&&_, _||_};
-ghost use lib.Dec.{leb, eqb};
+ghost use lib.Dec.{leb};
 ghost use Rattle.host.specs.Record.{recordOf, soundOf};
 ghost use Rattle.rounds.specs.Round.{leastLimit, mostLimit, everyPlace, presentAt, presentSound};
 ghost use Rattle.rounds.specs.Dealing.{headerAt, headerPlaced, recordsOf, roundRefusal};

@@ -1,11 +1,11 @@
 -- What a line does, over plain values: r is what the program gives back of it.
 -- Assumes nothing.
-use mathlib.Core.Path.{_≡_, refl, sym, ap, subst, _∙_}
+use mathlib.Core.Path.{_≡_, refl, ap, subst, _∙_}
 use mathlib.Core.Bool.{Bool, true, false}
 use mathlib.Core.List.{List, [], _∷_, _++_}
 use Prim.Native.Nat.{ℕ, _≤_}
 use native.Mathlib.Omega.{arith}
-use lib.ListN.{length, take, drop, length-append, length-take}
+use lib.ListN.{length, take, drop, length-append}
 use lib.Seq.{take-length, take-append-le, take-at, length-take-le, length-front}
 use Rattle.map.specs.declared.refusals.Answer.{Answer}
 use Rattle.map.specs.declared.refusals.Answer.the-variants.{Accepted, Refused}
@@ -25,9 +25,7 @@ use Rattle.update.specs.declared.Updated.{Updated}
 use Rattle.update.specs.Update.{writesOf, sendAnswer, sendOf, updateOf}
 use Rattle.update.specs.BoundLaws.{always-room}
 use Rattle.chip.specs.declared.Opened.{Opened}
-use Rattle.chip.specs.declared.Fed.{Fed}
-use Rattle.chip.specs.Chip.{atResetOf, feedOf}
-use Rattle.history.specs.declared.World.{World}
+use Rattle.chip.specs.Chip.{atResetOf}
 use Rattle.history.specs.declared.Stepped.{Stepped}
 use Rattle.history.specs.declared.Ledger.{Ledger}
 use Rattle.history.specs.Step.{Step, leaving, stepOf}
@@ -39,13 +37,11 @@ use Rattle.script.specs.Lines.{lineOf}
 use Rattle.script.specs.LineLaws.{CommandFits, Fits, fits}
 use Rattle.script.specs.declared.command.Lent.the-variants.{Room}
 use Rattle.text.specs.Text.{Puts}
-use Rattle.text.specs.TextLaws.{puts-as}
-use Rattle.replies.specs.Replies.{replyLine}
 use Rattle.replies.specs.declared.Reply.{Reply}
 use Rattle.replies.specs.declared.Reply.the-variants.{Bad, Numbers, Lent, Bytes, Same, Differs}
 use Rattle.session.specs.declared.Session.{Session}
 use Rattle.session.specs.declared.outcomes.Outcome.{Outcome}
-use Rattle.session.specs.Run.{Effect, Does, Plain, Words, showing, answered, numbered, openedSession, openEffect, withWorld, stepEffect, told, callEffect, feedEffect, faultsEffect, shownBytes, pendingNumbers, effectOf}
+use Rattle.session.specs.Run.{Effect, Does, Plain, Words, answered, numbered, openedSession, openEffect, stepEffect, told, callEffect, faultsEffect, shownBytes, pendingNumbers, effectOf}
 use Rattle.session.proofs.Buffers.{whole}
 
 pub plain-words : (r : Reply) → Plain r → Words r

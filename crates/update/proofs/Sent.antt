@@ -2,26 +2,21 @@
 -- Assumes nothing.
 use mathlib.Core.Path.{_≡_, refl, sym, ap, ap₂, subst, _∙_}
 use mathlib.Core.Bool.{Bool, true, false, cond}
-use mathlib.Core.List.{List, [], _∷_, _++_, map, append-assoc}
-use Prim.Native.Nat.{ℕ, zero, suc, _+_, _-_, _*_, _%_, _≤_, _<_}
-use native.Mathlib.Decide.{ℕ-discrete}
+use mathlib.Core.List.{List, _++_, map, append-assoc}
+use Prim.Native.Nat.{ℕ, _+_, _-_, _*_, _%_, _≤_, _<_}
 use native.Mathlib.Omega.{arith}
 use borrow.Author.Tests.{eq-eqb, ne-eqb}
-use lib.Dec.{eqb}
 use lib.ListN.{length, getD, take, drop, length-append, length-map}
-use lib.Seq.{sets, take-suc, take-length, length-take-le}
+use lib.Seq.{sets, take-length, length-take-le}
 use Rattle.map.specs.declared.refusals.Refusal.the-variants.{Unsound}
 use Rattle.burst.specs.Burst.{Burst, sizeBytes, sizesBytes, busBytes, putSize, transactionOf, encode}
 use Rattle.burst.specs.BurstLaws.{encode-length}
-use Rattle.plan.specs.Lists.{All, all-append, all-weaken}
-use Rattle.plan.specs.Plan.{Mark, Write, cost, plan}
-use Rattle.plan.specs.Writes.{Good}
+use Rattle.plan.specs.Plan.{Write, cost, plan}
 use Rattle.plan.specs.WriteLaws.{cost-append}
-use Rattle.plan.specs.Update.{valueAt, View, onBy, sameAt, seen, marksFor, dataOf, updateFor, storeAll, Layout}
-use Rattle.plan.specs.UpdateLaws.{one-is, zero-is, plan-ok}
+use Rattle.plan.specs.Update.{valueAt, onBy, dataOf, storeAll}
 use Rattle.host.specs.declared.Header.{Header}
 use Rattle.host.specs.declared.Record.{Record}
-use Rattle.host.specs.Record.{recordOf, soundOf, mayWrite}
+use Rattle.host.specs.Record.{recordOf, soundOf}
 use Rattle.host.specs.SoundLaws.{Sound, sound-is}
 use Rattle.writes.specs.declared.scan.Matrix.{Matrix}
 use Rattle.writes.specs.Marks.{chipView, marksOf, matrixOf}
@@ -32,7 +27,6 @@ use Rattle.update.specs.declared.ListAnswer.{ListAnswer}
 use Rattle.update.specs.declared.ListAnswer.the-variants.{Listed, Short, Refused}
 use Rattle.update.specs.Update.{listSize, writesOf, updating, updateAnswer, updateOf, updateBuffer}
 use Rattle.update.specs.SendLaws.{Leaves, send-unsound, send-short, send-listed}
-use Rattle.update.specs.UpdateLaws.{enable-byte, image-layout}
 use Rattle.update.specs.Pieces.{enableCount, enableWrites, planCount, planned, pending, ListSizes}
 use Rattle.update.specs.PieceLaws.{enable-length, enable-cost, enable-inside, pending-inside, writes-are}
 

@@ -1,6 +1,5 @@
 -- `player::asides::put` meets its contract.
 -- Assumes nothing.
-use mathlib.Core.Path.{refl}
 use Rattle.text.specs.TextLaws.{puts-then}
 use Rattle.script.specs.LineLaws.{AsideFits}
 use Rattle.player.specs.Play.{sessionOf, asideLine}

@@ -2,7 +2,6 @@
 -- Assumes nothing.
 use borrow.Author.Tests.{not-true, not-false}
 use borrow.Author.Needs.{needs}
-use Rattle.host.specs.Record.{recordOf}
 use Rattle.rounds.proofs.Shares.{waits-scanned}
 use Rattle.rounds.proofs.Joining.{absent-put, present-free, present-put}
 use Rattle.rounds.proofs.writing.put_at.Statement.{statement}
