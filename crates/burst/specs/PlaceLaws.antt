@@ -4,14 +4,15 @@
 use mathlib.Core.Path.{_≡_, refl, sym, ap, _∙_}
 use mathlib.Core.Bool.{Bool, true, false}
 use mathlib.Core.List.{List, [], _∷_}
-use Prim.Native.Nat.{ℕ, zero, suc, _+_, _*_, _≤_, _<_}
-use native.Mathlib.Nat.{add-zero}
+use Prim.Native.Nat.{ℕ, zero, suc, _+_, _-_, _*_, _≤_, _<_}
+use native.Mathlib.Nat.{add-zero, zero-add, suc-add}
 use native.Mathlib.Omega.{arith}
 use borrow.Author.Tests.{ltb-true, leb-true}
 use lib.Dec.{ltb, leb}
 use lib.ListN.{length, getD, take, drop}
+use lib.Seq.{getD-take, getD-drop, drop-drop, take-nil}
 use Rattle.burst.specs.declared.places.Place.the-variants.{At, BadSizes, NoIndex}
-use Rattle.burst.specs.Burst.{size16, nOf, tOf, lengthsFrom, lengths, cutFrom, transactions, sum, allAtLeast3, sizesGood, lengthAt, bytesBefore, offsetAt, placeOf}
+use Rattle.burst.specs.Burst.{size16, nOf, tOf, lengthsFrom, lengths, cutFrom, transactions, sum, allAtLeast3, sizesGood, lengthAt, bytesBefore, offsetAt, placeOf, headAddress, Burst, burstOf}
 use Rattle.burst.specs.BurstLaws.{and-left, and-right, lengths-count, good-sizes}
 
 -- ---- lengths
@@ -95,6 +96,29 @@ transaction-stands l i e h =
       inside = omega (arith, bytes-most l i e, good-sizes l e .size);
       least = least-at ks i (good-sizes l e .least) number;
     }
+
+drop-take : (n k : ℕ) (l : List ℕ) → drop n (take (n + k) l) ≡ take k (drop n l)
+drop-take zero k l = rw zero-add
+drop-take (suc n) k [] = rw (suc-add, take-nil)
+drop-take (suc n) k (x ∷ l) = rw suc-add (drop-take n k l)
+
+-- the head and the data of k bytes that stand at q: "two head bytes and one or more data bytes"
+module _ (q k : ℕ) (l : List ℕ) (three : 3 ≤ k) where
+  pub first-byte : getD (take k (drop q l)) 0 0 ≡ getD l q 0
+  first-byte = getD-take k (drop q l) 0 0 (omega arith) ∙ getD-drop q l 0 0 ∙ rw add-zero
+
+  pub second-byte : getD (take k (drop q l)) 1 0 ≡ getD l (q + 1) 0
+  second-byte = getD-take k (drop q l) 1 0 (omega arith) ∙ getD-drop q l 1 0
+
+  pub data-bytes : drop 2 (take k (drop q l)) ≡ take (k - 2) (drop (q + 2) l)
+  data-bytes =
+      let size : k ≡ 2 + (k - 2) = omega arith in
+      ap (λ (x : ℕ). drop 2 (take x (drop q l))) size ∙ drop-take 2 (k - 2) (drop q l) ∙ ap (take (k - 2)) (drop-drop 2 q l)
+
+  pub burst-at : (bus : ℕ) →
+      burstOf bus (take k (drop q l)) ≡ record { start = headAddress bus (getD l q 0) (getD l (q + 1) 0); bytes = take (k - 2) (drop (q + 2) l) }
+  unfolding burstOf
+  burst-at bus = rw (first-byte, second-byte, data-bytes) refl
 
 -- ---- the answer
 

@@ -12,6 +12,7 @@ use lib.Seq.{getD-take, getD-drop, drop-drop, take-nil}
 use Rattle.burst.specs.declared.sizes.Sizes.{Sizes}
 use Rattle.burst.specs.declared.sizes.Sizes.the-variants.{Good, Bad}
 use Rattle.burst.specs.Burst.{size16, lengthsFrom, lengths, cutFrom, transactions, sizesOf, headAddress}
+use Rattle.burst.specs.PlaceLaws.{first-byte, second-byte, data-bytes}
 use Rattle.burst.specs.BurstLaws.{lengths-none, lengths-step, GoodSizes, sizes-good, sizes-bad, Rest, rest-all, rest-first, rest-next}
 use Rattle.text.specs.Text.{Puts, addressText, decimalText, spacedBytesText}
 use Rattle.text.specs.TextLaws.{puts-length, puts-inside, puts-then, puts-as, Putting, putting-none, putting-more, putting-all}
@@ -40,25 +41,18 @@ pub spi-address : (bus h0 h1 : ℕ) → (bus ≡ 0 → ⊥) → headAddress 1 h0
 unfolding headAddress
 spi-address bus h0 h1 h = rw (ne-eqb bus 0 h) refl
 
-drop-take : (n k : ℕ) (l : List ℕ) → drop n (take (n + k) l) ≡ take k (drop n l)
-drop-take zero k l = rw zero-add
-drop-take (suc n) k [] = rw (suc-add, take-nil)
-drop-take (suc n) k (x ∷ l) = rw suc-add (drop-take n k l)
-
 module _ (bus q k : ℕ) (l : List ℕ) (three : 3 ≤ k) (inside : q + k ≤ length l) where
   -- the bytes behind the head of a transaction that stands at q of a list
   bytes-at : drop 2 (take k (drop q l)) ≡ take (q + k - (q + 2)) (drop (q + 2) l)
   bytes-at =
-      let size : k ≡ 2 + (q + k - (q + 2)) = omega arith in
-      ap (λ (x : ℕ). drop 2 (take x (drop q l))) size ∙ drop-take 2 (q + k - (q + 2)) (drop q l) ∙ ap (take (q + k - (q + 2))) (drop-drop 2 q l)
+      let size : k - 2 ≡ q + k - (q + 2) = omega arith in
+      data-bytes q k l three ∙ ap (λ (x : ℕ). take x (drop (q + 2) l)) size
 
   transaction-at : (a : ℕ) → a ≡ headAddress bus (getD l q 0) (getD l (q + 1) 0) →
       addressText a ++ spacedBytesText (take (q + k - (q + 2)) (drop (q + 2) l)) ≡ transactionText bus (take k (drop q l))
   unfolding transactionText
   transaction-at a e =
-      let first : getD (take k (drop q l)) 0 0 ≡ getD l q 0 = getD-take k (drop q l) 0 0 (omega arith) ∙ getD-drop q l 0 0 ∙ rw add-zero in
-      let second : getD (take k (drop q l)) 1 0 ≡ getD l (q + 1) 0 = getD-take k (drop q l) 1 0 (omega arith) ∙ getD-drop q l 1 0 in
-      rw (first, second, bytes-at, e) refl
+      rw (first-byte q k l three, second-byte q k l three, bytes-at, e) refl
 
   pub transaction-put : (separator old : List ℕ) (at : ℕ) (mid : List ℕ) (next a : ℕ) (late : List ℕ) (last : ℕ) (new : List ℕ) (r : ℕ) →
       Puts old at separator mid next → a ≡ headAddress bus (getD l q 0) (getD l (q + 1) 0) → Puts mid next (addressText a) late last →

@@ -1,3 +1,4 @@
 pub mod Bytes
 pub mod Marks
 pub mod Counting
+pub mod ListStored

@@ -2,7 +2,7 @@
 ghost use mathlib.Core.Path.{_≡_};
 ghost use mathlib.Core.List.{_++_};
 ghost use Prim.Native.Nat.{_+_, _-_, _*_, min};
-ghost use lib.ListN.{take, drop};
+ghost use lib.ListN.{length, take, drop};
 ghost use lib.Seq.{sets};
 ghost use Rattle.burst.specs.Burst.{sizeBytes, putSize, transactionOf};
 ghost use Rattle.plan.specs.Update.{dataOf};
@@ -22,8 +22,10 @@ fn room(size: usize, at: usize, len: usize) -> usize
     len
 }
 
-// `len` bytes of `from`, from `start` on, go to the places of `to` from `at` on. What lies behind either end is left out.
-pub fn copy(to: &mut [u8], at: usize, from: &[u8], start: usize, len: usize)
+// `len` bytes of `from`, from `start` on, go to the places of `to` from `at` on. What lies behind either end is left out. It answers how
+// many bytes it stored, counted as it stores them.
+pub fn copy(to: &mut [u8], at: usize, from: &[u8], start: usize, len: usize) -> usize
+    ensures { λ r. ⌜ r ≡ min (min len (length (now (from .entry)) - start)) (length (now (to .entry)) - at) ⌝ }
     ensures { λ _. ⌜ now (to .exit) ≡ sets (now (to .entry)) at (take len (drop start (now (from .entry)))) ⌝ }
 {
     let count = room(to.len(), at, room(from.len(), start, len));
@@ -32,6 +34,7 @@ pub fn copy(to: &mut [u8], at: usize, from: &[u8], start: usize, len: usize)
         to[at + i] = from[start + i];
         i += 1;
     }
+    i
 }
 
 // One transaction at a place: the head, and the settings' bytes from `start` on. What lies behind the buffer's end is left out.

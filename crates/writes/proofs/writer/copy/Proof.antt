@@ -49,7 +49,7 @@ same-length c = c .before .loop .inv .1 .size
 returns : tie.Need-returns Inv-loop μ-loop
 returns c =
     let most = c .before .before .before .room .ensures in
-    copied-done _ _ _ _ _ _ _ _ _ most (c .before .before .room2 .ensures) (omega arith) (c .before .loop .inv .1)
+    (omega arith, copied-done _ _ _ _ _ _ _ _ _ most (c .before .before .room2 .ensures) (omega arith) (c .before .loop .inv .1))
 
 pub copy-spec : {M : Type 1} → statement M
 copy-spec =
