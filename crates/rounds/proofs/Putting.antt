@@ -15,7 +15,7 @@ use Rattle.plan.specs.Portion.{portion}
 use Rattle.host.specs.declared.Record.{Record}
 use Rattle.host.specs.SoundLaws.{Sound}
 use Rattle.writes.specs.WrittenLaws.{lengths-are}
-use Rattle.writes.specs.PutLaws.{Put, put-start, put-more}
+use Rattle.writes.specs.PutLaws.{Put, put-start, put-more, Taken, taken-start, taken-more}
 use Rattle.update.specs.Update.{writesOf}
 use Rattle.rounds.specs.Parts.{Open, Shut, Begun, NextPart, Fits}
 use Rattle.rounds.specs.Dealing.{putPart, partTransactions}
@@ -40,14 +40,16 @@ module _ (r : Record) where
       pub ws : List Write
       pub next-is : next ≡ index + length ws
       pub going : Going r room left ws start end
-      pub put : Put (r .header) (r .settings) old before (4 + 2 * index) at ws buffer image
+      pub put : Put (r .header) (r .settings) old (4 + 2 * index) at ws buffer
+      pub taken : Taken (r .settings) before ws image
 
     pub putting-start : Sound r → (start end : ℕ) → Fits room start end → NextPart r 0 room start end → Putting index room start end old before
     putting-start s start end f n = record {
       ws = [];
       next-is = omega arith;
       going = going-start r s room start end f n;
-      put = put-start (r .header) (r .settings) old before (4 + 2 * index) at;
+      put = put-start (r .header) (r .settings) old (4 + 2 * index) at;
+      taken = taken-start (r .settings) before;
     }
 
     module _ (s : Sound r) (free : 4 + 2 * (index + length (portion room (writesOf r))) ≤ at) (next left start end : ℕ) (buffer image : List ℕ)
@@ -63,22 +65,23 @@ module _ (r : Record) where
           )
 
       pub putting-more : start < 908 → (stop after last : ℕ) → stop ≡ at + room → Fits (left - (end - start + 2)) after last →
-          NextPart r end (left - (end - start + 2)) after last → (mid new taken : List ℕ) → mid ≡ putSize buffer (4 + 2 * next) (end - start + 2) →
+          NextPart r end (left - (end - start + 2)) after last → (mid new after-image : List ℕ) → mid ≡ putSize buffer (4 + 2 * next) (end - start + 2) →
           new
           ≡ sets mid (stop - left)
           (transactionOf (r .header .bus) (r .header .pins) (dataOf (r .settings) (record { start = start; len = end - start }))) →
-          taken ≡ sets image start (take (end - start) (drop start (r .settings))) →
-          Putting (next + 1) (left - (end - start + 2)) after last new taken
-      putting-more u stop after last e f n mid new taken em en et =
+          after-image ≡ sets image start (take (end - start) (drop start (r .settings))) →
+          Putting (next + 1) (left - (end - start + 2)) after last new after-image
+      putting-more u stop after last e f n mid new after-image em en et =
           let q = g .going in
           record {
             ws = g .ws ++ one start end;
             next-is = omega (arith, g .next-is, length-append (g .ws) (one start end));
             going = going-more r room left (g .ws) start end q u after last f n;
             put =
-                put-more (r .header) (r .settings) old before (4 + 2 * index) at (g .ws) buffer image (g .put) start end (4 + 2 * next) (stop - left)
+                put-more (r .header) (r .settings) old (4 + 2 * index) at (g .ws) buffer (g .put) start end (4 + 2 * next) (stop - left)
                 (q .fits .ordered) (omega (arith, q .fits .most, s .settings .size)) (omega (arith, g .next-is)) (putting-free u)
-                (omega (arith, q .begun .spent)) mid new taken em en et;
+                (omega (arith, q .begun .spent)) mid new em en;
+            taken = taken-more (r .settings) before (g .ws) image (g .taken) start end after-image et;
           }
 
       -- all of it is written
@@ -94,5 +97,5 @@ module _ (r : Record) where
                 ∙ ap (λ (l : List ℕ). sets (sets old (4 + 2 * index) (sizesBytes l)) at (joined (map (transactionOf (r .header .bus) (r .header .pins)) (map (dataOf (r .settings)) (g .ws)))))
                 (sym (lengths-are (r .header) (r .settings) (g .ws) (g .put .inside)))
                 ∙ ap (λ (xs : List Burst). putPart old index at (map (transactionOf (r .header .bus) (r .header .pins)) xs)) (sym is),
-            g .put .stored ∙ ap (λ (xs : List Burst). storeAll xs before) (sym is),
+            g .taken .is ∙ ap (λ (xs : List Burst). storeAll xs before) (sym is),
           )

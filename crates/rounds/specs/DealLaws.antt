@@ -21,7 +21,7 @@ use Rattle.host.specs.Record.{soundOf, mayWrite}
 use Rattle.update.specs.declared.ListAnswer.{ListAnswer}
 use Rattle.update.specs.declared.ListAnswer.the-variants.{Listed, Refused}
 use Rattle.update.specs.Update.{isListed, writesOf}
-use Rattle.update.specs.BoundLaws.{names-writable}
+use Rattle.update.specs.BoundLaws.{good-data, good-named, names-writable}
 use Rattle.rounds.specs.Round.{bytesAll, shareOf, leftOver, deal, roomAt, countAll, roundSize, partAt, leastLimit, mostLimit, everyPlace, waiting, waitings, roundRoom, roundParts, presentSound, presentPlaced, roundAnswer, atPlace}
 use Rattle.rounds.specs.ListLaws.{AllReady}
 
@@ -72,16 +72,14 @@ deal-ready share left (c ∷ cs) h =
 
 -- ---- Pending lists
 
-good-ready : (ok : ℕ → Bool) (bs : List Burst) → AllGood ok 908 (map writeOf bs) → AllData bs × AllNamed bs
-good-ready ok [] g = (tt, tt)
-good-ready ok (b ∷ bs) g =
-    let rest = good-ready ok bs (g .1) in
-    ((g .0 .some, rest .0), (omega (arith, g .0 .some, g .0 .fits), rest .1))
-
 pub update-portionable : (r : Record) → soundOf r ≡ true → Portionable (writesOf r)
-update-portionable r e room =
-    good-ready (mayWrite (r .header)) (portion room (writesOf r))
-    (begins-good (mayWrite (r .header)) 908 (portion room (writesOf r)) (writesOf r) (portion-begins room (writesOf r)) (names-writable r e))
+update-portionable r e room = (good-data ok (portion room (writesOf r)) good, good-named ok (portion room (writesOf r)) good)
+  where
+    abbrev ok : ℕ → Bool
+    ok = mayWrite (r .header)
+
+    good : AllGood ok 908 (map writeOf (portion room (writesOf r)))
+    good = begins-good ok 908 (portion room (writesOf r)) (writesOf r) (portion-begins room (writesOf r)) (names-writable r e)
 
 none-portionable : Portionable []
 none-portionable room = subst (λ (xs : List Burst). AllData xs × AllNamed xs) (sym (portion-empty room)) (tt, tt)

@@ -1,4 +1,4 @@
--- The fixed strings of Reset and Clear, and the records that the calls by value give back.
+-- The fixed strings of Reset and Clear, the records that the calls by value give back, and the numbers of an update's answer.
 -- Assumes nothing.
 use mathlib.Core.Path.{_≡_, refl, sym, ap, _∙_}
 use mathlib.Core.Bool.{Bool, true, false, cond}
@@ -10,7 +10,9 @@ use lib.Dec.{eqb}
 use lib.Bits.{bitOr}
 use lib.ListN.{length, getD, set, take, drop}
 use lib.Seq.{sets, take-length}
+use Rattle.map.specs.declared.refusals.Numbers.{Numbers}
 use Rattle.map.specs.declared.refusals.Refusal.the-variants.{Unsound, BufferShort}
+use Rattle.map.specs.Refusals.{numbersOf}
 use Rattle.map.specs.Lists.{allFrom}
 use Rattle.map.specs.ListLaws.{all-at}
 use Rattle.map.specs.Images.{resetImage}
@@ -22,7 +24,7 @@ use Rattle.host.specs.Record.{recordOf, soundOf}
 use Rattle.writes.specs.WrittenLaws.{sets-front}
 use Rattle.update.specs.declared.ListAnswer.{ListAnswer}
 use Rattle.update.specs.declared.ListAnswer.the-variants.{Listed, Refused}
-use Rattle.update.specs.Update.{isListed, listSize, over, sendAnswer, sendOf, sendBuffer, commandWrite, command, resetAnswer, chipResetOf, clearing, clearAnswer, clearOf}
+use Rattle.update.specs.Update.{isListed, listNumbers, updateNumbers, listSize, over, sendAnswer, sendOf, sendBuffer, commandWrite, command, resetAnswer, chipResetOf, clearing, clearAnswer, clearOf}
 use Rattle.update.specs.SendLaws.{listed-room, sent-is, clear-leaves}
 
 -- ---- the strings
@@ -108,3 +110,12 @@ reset-is r size answer e image i = rw (i, e) refl
 pub reset-own : (answer : ListAnswer) (n t : ℕ) (image values new : List ℕ) → answer ≡ Listed n t → length image ≡ 908 →
     new ≡ cond (eqb (length image) 908) values image → new ≡ cond (isListed answer) values image
 reset-own answer n t image values new ea h e = e ∙ rw (eq-eqb (length image) 908 h, ea) refl
+
+-- ---- the numbers of an update's answer
+
+-- what was stored, behind n and t
+pub stored-behind : (answer : ListAnswer) (n t stored : ℕ) (numbers : Numbers) → answer ≡ Listed n t → numbers ≡ numbersOf (listNumbers answer) →
+    record { count = 4; number = numbers .number; first = numbers .first; second = numbers .second; third = stored; fourth = numbers .fourth }
+    ≡ numbersOf (updateNumbers answer stored)
+unfolding numbersOf
+stored-behind answer n t stored numbers e en = rw (en, e) refl

@@ -1,3 +1,4 @@
 pub mod Fixed
 pub mod Loops
-pub mod Sent
+pub mod WholeList
+pub mod ImageTaken

@@ -12,7 +12,7 @@ use Rattle.map.specs.Map.{kindOf, linesOf, columnsOf, hasColumn, dotIn, numberI
 use Rattle.map.specs.Lists.{allFrom}
 use Rattle.map.specs.ListLaws.{all-at}
 use Rattle.burst.specs.Burst.{Burst, busBytes}
-use Rattle.burst.specs.BurstLaws.{AllData, Sendable}
+use Rattle.burst.specs.BurstLaws.{AllData, AllNamed, Sendable}
 use Rattle.plan.specs.Plan.{cost, plan, scan}
 use Rattle.plan.specs.Writes.{AllGood}
 use Rattle.plan.specs.Update.{allDiffer, writeOf, Layout}
@@ -22,6 +22,7 @@ use Rattle.host.specs.declared.Record.{Record}
 use Rattle.host.specs.Record.{soundOf, mayWrite}
 use Rattle.host.specs.SoundLaws.{sound-is}
 use Rattle.writes.specs.Marks.{chipView}
+use Rattle.writes.specs.Stored.{AllWithin}
 use Rattle.update.specs.declared.ListAnswer.the-variants.{Listed}
 use Rattle.update.specs.Update.{listSize, writesOf, sendAnswer, updateAnswer}
 use Rattle.update.specs.UpdateLaws.{image-layout}
@@ -34,10 +35,20 @@ full-cost : (h : Header) → h .member < 5 → cost (plan (allDiffer (mayWrite h
 unfolding mayWrite full-test allFrom plan scan writableOf reservedOf reservedAs kindOf linesOf columnsOf pwmReserved numberIn dotIn hasColumn currentReserved switchReserved switchMask noSink groupReserved groupMask firstMask firstMasks
 full-cost h l = leb-true (cost (plan (allDiffer (writableOf (h .member))) 908)) 699 (all-at full-test 0 5 refl (h .member) (omega arith) l)
 
--- every transaction has data
-good-data : (ok : ℕ → Bool) (bs : List Burst) → AllGood ok 908 (map writeOf bs) → AllData bs
+-- writes to addresses that may be written: each has data,
+pub good-data : (ok : ℕ → Bool) (bs : List Burst) → AllGood ok 908 (map writeOf bs) → AllData bs
 good-data ok [] g = tt
 good-data ok (b ∷ bs) g = (g .0 .some, good-data ok bs (g .1))
+
+-- starts at an address of ten bits,
+pub good-named : (ok : ℕ → Bool) (bs : List Burst) → AllGood ok 908 (map writeOf bs) → AllNamed bs
+good-named ok [] g = tt
+good-named ok (b ∷ bs) g = (omega (arith, g .0 .some, g .0 .fits), good-named ok bs (g .1))
+
+-- and ends within the 908
+good-within : (ok : ℕ → Bool) (bs : List Burst) → AllGood ok 908 (map writeOf bs) → AllWithin 908 bs
+good-within ok [] g = tt
+good-within ok (b ∷ bs) g = (g .0 .fits, good-within ok bs (g .1))
 
 module _ (r : Record) (e : soundOf r ≡ true) where
   layout : Layout (mayWrite (r .header)) 908 (r .settings)
@@ -75,3 +86,10 @@ module _ (r : Record) (e : soundOf r ≡ true) where
   -- Every length and size fits two bytes: the list reads back as it was written.
   pub update-sendable : Sendable (writesOf r)
   update-sendable = record { some = good-data (mayWrite (r .header)) (writesOf r) names-writable; short = omega (arith, bus-most) }
+
+  pub update-named : AllNamed (writesOf r)
+  update-named = good-named (mayWrite (r .header)) (writesOf r) names-writable
+
+  -- and every data byte has its place in the chip image
+  pub update-within : AllWithin 908 (writesOf r)
+  update-within = good-within (mayWrite (r .header)) (writesOf r) names-writable

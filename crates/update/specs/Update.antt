@@ -1,5 +1,6 @@
--- Update and Reset: document 01, "Burst lists"; Clear: document 02, Q-1. Each sends some writes, and sending is defined once, in three
--- parts: the answer, the record that the call returns with it, and the buffer as it leaves it.
+-- Update and Reset: document 01, "Burst lists"; Clear, and what an update answers that it stored: document 02, Q-1 and Q-4. Each call
+-- sends some writes, and sending is defined once, in three parts: the answer, the record that the call returns with it, and the buffer as
+-- it leaves it.
 -- Assumes nothing.
 use mathlib.Core.Bool.{Bool, true, false, cond}
 use mathlib.Core.List.{List, [], _∷_, _++_}
@@ -9,13 +10,14 @@ use lib.ListN.{length, getD, drop}
 use Rattle.map.specs.declared.refusals.Refusal.the-variants.{BufferShort, Unsound}
 use Rattle.map.specs.Refusals.{refusalNumber}
 use Rattle.map.specs.Images.{resetImage}
-use Rattle.burst.specs.Burst.{Burst, busBytes, encode}
+use Rattle.burst.specs.Burst.{Burst, busBytes, dataBytes, encode}
 use Rattle.plan.specs.Update.{updateFor, storeAll}
 use Rattle.host.specs.declared.Record.{Record}
 use Rattle.host.specs.Record.{recordOf, soundOf, mayWrite}
 use Rattle.writes.specs.Marks.{chipView}
 use Rattle.update.specs.declared.ListAnswer.{ListAnswer}
 use Rattle.update.specs.declared.ListAnswer.the-variants.{Listed, Short, Refused}
+use Rattle.update.specs.declared.Sent.{Sent}
 use Rattle.update.specs.declared.Updated.{Updated}
 
 -- ---- Answers
@@ -25,6 +27,12 @@ abbrev pub listNumbers : ListAnswer → List ℕ
 listNumbers (Listed n t) = 0 ∷ n ∷ t ∷ []
 listNumbers (Short needed) = refusalNumber BufferShort ∷ needed ∷ []
 listNumbers (Refused r) = refusalNumber r ∷ []
+
+-- Q-4: "Update also answers how many image bytes it stored": behind n and t
+abbrev pub updateNumbers : ListAnswer → ℕ → List ℕ
+updateNumbers (Listed n t) stored = 0 ∷ n ∷ t ∷ stored ∷ []
+updateNumbers (Short needed) stored = listNumbers (Short needed)
+updateNumbers (Refused r) stored = listNumbers (Refused r)
 
 -- the number alone
 abbrev pub listNumber : ListAnswer → ℕ
@@ -61,7 +69,7 @@ sendAnswer r x size =
     (Refused Unsound)
 
 -- the answer, and the host's record: the chip image changes where a list was written, and nothing else does
-unfoldable pub sendOf : Record → Sending → ℕ → Updated
+unfoldable pub sendOf : Record → Sending → ℕ → Sent
 sendOf r x size = record {
   answer = sendAnswer r x size;
   host = recordOf (r .header) (r .settings) (cond (isListed (sendAnswer r x size)) (x .image) (r .image));
@@ -85,8 +93,12 @@ updating r = record { writes = writesOf r; short = Short (listSize (writesOf r))
 abbrev pub updateAnswer : Record → ℕ → ListAnswer
 updateAnswer r size = sendAnswer r (updating r) size
 
+-- Q-4: "how many image bytes it stored": one for each data byte that it sent, and none where no list was written
+abbrev pub updateStored : Record → ℕ → ℕ
+updateStored r size = cond (isListed (updateAnswer r size)) (dataBytes (writesOf r)) 0
+
 abbrev pub updateOf : Record → ℕ → Updated
-updateOf r size = sendOf r (updating r) size
+updateOf r size = record { answer = updateAnswer r size; stored = updateStored r size; host = sendOf r (updating r) size .host }
 
 abbrev pub updateBuffer : Record → List ℕ → List ℕ
 updateBuffer r buffer = sendBuffer r (updating r) buffer
@@ -108,7 +120,7 @@ resetting r = command 0x0A9 (0xFF ∷ []) (resetImage (r .header .member))
 abbrev pub resetAnswer : Record → ℕ → ListAnswer
 resetAnswer r size = sendAnswer r (resetting r) size
 
-abbrev pub chipResetOf : Record → ℕ → Updated
+abbrev pub chipResetOf : Record → ℕ → Sent
 chipResetOf r size = sendOf r (resetting r) size
 
 abbrev pub resetBuffer : Record → List ℕ → List ℕ
@@ -122,7 +134,7 @@ clearing r = command 0x0A7 (0x0F ∷ 0x0F ∷ []) (r .image)
 abbrev pub clearAnswer : Record → ℕ → ListAnswer
 clearAnswer r size = sendAnswer r (clearing r) size
 
-abbrev pub clearOf : Record → ℕ → Updated
+abbrev pub clearOf : Record → ℕ → Sent
 clearOf r size = sendOf r (clearing r) size
 
 abbrev pub clearBuffer : Record → List ℕ → List ℕ

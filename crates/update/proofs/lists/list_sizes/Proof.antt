@@ -2,7 +2,7 @@
 -- Assumes nothing.
 use native.Mathlib.Omega.{arith}
 use Rattle.host.specs.Record.{recordOf}
-use Rattle.update.proofs.Sent.{sizes-off, sizes-on}
+use Rattle.update.proofs.WholeList.{sizes-off, sizes-on}
 use borrow.Author.Needs.{needs}
 use Rattle.update.proofs.lists.list_sizes.Statement.{statement}
 use Rattle.update.proofs.lists.list_sizes.Tie as tie

@@ -1,7 +1,7 @@
 -- `update::lists::put_front` meets its contract.
 -- Assumes nothing.
 use native.Mathlib.Omega.{arith}
-use Rattle.update.proofs.Sent.{front-none, front-first}
+use Rattle.update.proofs.WholeList.{front-none, front-first}
 use borrow.Author.Needs.{needs}
 use Rattle.update.proofs.lists.put_front.Statement.{statement}
 use Rattle.update.proofs.lists.put_front.Tie as tie
@@ -21,30 +21,24 @@ add-put-transaction c = search needs
 put-transaction-requires : tie.Need-put-transaction-requires
 put-transaction-requires c κs = search needs
 
-copy-requires : tie.Need-copy-requires
-copy-requires c κs = search needs
-
 same-length : tie.Need-same-length
 same-length c = search needs
+
+returns : tie.Need-returns
+returns c =
+    let sent = c .before .before in
+    let size = sent .before .before .before .before in
+    let head = size .before .before .before .before .before in
+    let a = head .before .before .before .before .args in
+    front-first (a .header) (a .settings .now) (a .buffer .now) _ (a .first) (a .n) (a .t) (head .put-header .ensures) _ _ (omega arith) (size .put-length .ensures) (sent .put-transaction .ensures)
 
 same-length-2 : tie.Need-same-length-2
 same-length-2 c = search needs
 
-returns : tie.Need-returns
-returns c =
-    let a = c .before .before .before .before .before .before .before .before .before .before .before .before .before .before .before .before .before .before .before .before .args in
-    let sent = c .before .before .before .before .before .before in
-    let size = sent .before .before .before .before in
-    front-first (a .header) (a .settings .now) (a .image .now) (a .buffer .now) _ (a .first) (a .n) (a .t) (size .before .before .before .before .before .put-header .ensures) _ _ _ (omega arith)
-    (size .put-length .ensures) (sent .put-transaction .ensures) (c .before .before .copy .ensures)
-
-same-length-3 : tie.Need-same-length-3
-same-length-3 c = search needs
-
 returns-2 : tie.Need-returns-2
 returns-2 c =
-    let a = c .before .before .before .before .before .before .before .before .args in
-    front-none (a .header) (a .settings .now) (a .image .now) (a .buffer .now) _ (a .first) (a .n) (a .t) (c .before .before .before .put-header .ensures) (omega arith)
+    let a = c .before .before .before .before .before .before .before .args in
+    front-none (a .header) (a .settings .now) (a .buffer .now) _ (a .first) (a .n) (a .t) (c .before .before .before .put-header .ensures) (omega arith)
 
 pub put-front-spec : {M : Type 1} → statement M
 put-front-spec =
@@ -55,9 +49,7 @@ put-front-spec =
     mul-put-transaction
     add-put-transaction
     put-transaction-requires
-    copy-requires
     same-length
-    same-length-2
     returns
-    same-length-3
+    same-length-2
     returns-2)

@@ -1,6 +1,6 @@
 -- `update::lists::put_list` meets its contract.
 -- Assumes nothing.
-use Rattle.update.proofs.Sent.{n-fits, pieces, taken-both}
+use Rattle.update.proofs.WholeList.{n-fits, pieces}
 use borrow.Author.Needs.{needs}
 use Rattle.update.proofs.lists.put_list.Statement.{statement}
 use Rattle.update.proofs.lists.put_list.Tie as tie
@@ -10,23 +10,19 @@ put-front-requires c κs = search needs
 
 put-planned-requires : tie.Need-put-planned-requires
 put-planned-requires c κs =
-    let p = c .before .before .before .before .before .before .before .before .before .before .before .before .before .before .pre in
+    let p = c .before .before .before .before .before .before .before .before .before .pre in
     let f = n-fits _ _ _ _ (p .1) in
     (p .0, p .1 .first-small, f .0, f .1, f .2)
 
 same-length : tie.Need-same-length
 same-length c = search needs
 
-same-length-2 : tie.Need-same-length-2
-same-length-2 c = search needs
-
 returns : tie.Need-returns
 returns c =
-    let p = c .before .before .before .before .before .before .before .before .before .before .before .before .before .before .before .before .before .before .before .pre in
-    let front = c .before .before .before .before .before .before .before .before .before .before .before .put-front .ensures in
-    let planned = c .before .before .before .before .put-planned .ensures in
-    (pieces _ _ _ _ (p .1) (p .0 .settings-size) _ _ _ (front .0) (planned .0), taken-both _ _ _ _ (p .1) _ _ _ (front .1) (planned .1))
+    let planned = c .before .before in
+    let front = planned .before .before .before .before in
+    let p = front .before .before .before .before .before .before .pre in
+    pieces _ _ _ _ (p .1) (p .0 .settings-size) _ _ _ (front .put-front .ensures) (planned .put-planned .ensures)
 
 pub put-list-spec : {M : Type 1} → statement M
-put-list-spec =
-    tie.close (tie.spec put-front-requires put-planned-requires same-length same-length-2 returns)
+put-list-spec = tie.close (tie.spec put-front-requires put-planned-requires same-length returns)

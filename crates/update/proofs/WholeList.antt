@@ -63,29 +63,25 @@ module _ (r : Record) (first : ℕ) (f : (first ≡ enableCount (onBy (valueAt (
 
 -- ---- the write of 000h
 
-module _ (h : Header) (settings image old front : List ℕ) (first n t : ℕ) (e : front ≡ sets old 0 (sizeBytes n ++ sizeBytes t)) where
-  abbrev Fronted : List ℕ → List ℕ → Type 0
-  Fronted new taken =
-      (new
+module _ (h : Header) (settings old front : List ℕ) (first n t : ℕ) (e : front ≡ sets old 0 (sizeBytes n ++ sizeBytes t)) where
+  abbrev Fronted : List ℕ → Type 0
+  Fronted new =
+      new
       ≡ sets (sets old 0 ((sizeBytes n ++ sizeBytes t) ++ sizesBytes (transactionLengths (enableWrites first)))) (4 + 2 * n)
-      (transactionBytes h settings (enableWrites first)))
-      × (taken ≡ storeWrites settings (enableWrites first) image)
+      (transactionBytes h settings (enableWrites first))
 
-  pub front-none : first ≡ 0 → Fronted front image
+  pub front-none : first ≡ 0 → Fronted front
   unfolding enableWrites
-  front-none z = rw z (e, refl)
+  front-none z = rw z e
 
-  pub front-first : (mid new taken : List ℕ) → first ≡ 1 → mid ≡ putSize front (4 + 2 * 0) 3 →
-      new ≡ sets mid (4 + 2 * n) (transactionOf (h .bus) (h .pins) (dataOf settings (record { start = 0; len = 1 }))) →
-      taken ≡ sets image 0 (take 1 (drop 0 settings)) → Fronted new taken
+  pub front-first : (mid new : List ℕ) → first ≡ 1 → mid ≡ putSize front (4 + 2 * 0) 3 →
+      new ≡ sets mid (4 + 2 * n) (transactionOf (h .bus) (h .pins) (dataOf settings (record { start = 0; len = 1 }))) → Fronted new
   unfolding enableWrites putSize
-  front-first mid new taken z em en et =
-      rw z (
-        en
-            ∙ ap₂ (λ (l k : List ℕ). sets l (4 + 2 * n) k) (sets-behind (sizeBytes n ++ sizeBytes t) (sizeBytes 3) old front mid 0 4 e em refl)
-            (sym (bytes-one h settings (record { start = 0; len = 1 }))),
-        et,
-      )
+  front-first mid new z em en =
+      rw z
+      (en
+      ∙ ap₂ (λ (l k : List ℕ). sets l (4 + 2 * n) k) (sets-behind (sizeBytes n ++ sizeBytes t) (sizeBytes 3) old front mid 0 4 e em refl)
+      (sym (bytes-one h settings (record { start = 0; len = 1 }))))
 
 -- ---- put_list
 
@@ -153,26 +149,17 @@ module _ (r : Record) (first n t : ℕ) (z : ListSizes r first n t) where
       ∙ ap₂ (λ (x y : List ℕ). (sizeBytes (length (pending r first)) ++ sizeBytes (cost (pending r first))) ++ (x ++ y))
       (sym (lengths-append (enableWrites first) ws)) (sym (bytes-append (r .header) (r .settings) (enableWrites first) ws)))
 
-  pub taken-both : (i₀ i₁ i₂ : List ℕ) → i₁ ≡ storeWrites (r .settings) (enableWrites first) i₀ → i₂ ≡ storeWrites (r .settings) (planned r (n - first)) i₁ →
-      i₂ ≡ storeWrites (r .settings) (pending r first) i₀
-  taken-both i₀ i₁ i₂ e₁ e₂ =
-      e₂
-      ∙ ap₂ (λ (k : ℕ) (i : List ℕ). storeWrites (r .settings) (planned r k) i) left e₁
-      ∙ sym (stores-append (r .settings) (enableWrites first) (planned r (planCount r)) i₀)
-
 -- what a sound record's update sends
 pub record Sends (r : Record) (first n t : ℕ) : Type 0 where
   pub n-is : length (writesOf r) ≡ n
   pub t-is : busBytes (writesOf r) ≡ t
   pub list-is : encode (r .header .bus) (r .header .pins) (writesOf r) ≡ writesBytes (r .header) (r .settings) (pending r first)
-  pub stored-is : storeAll (writesOf r) (r .image) ≡ storeWrites (r .settings) (pending r first) (r .image)
 
 pub sends : (r : Record) → Sound r → (first n t : ℕ) → ListSizes r first n t → Sends r first n t
 sends r s first n t z = record {
   n-is = ap length are ∙ length-map ws (dataOf (r .settings)) ∙ pending-length r first n t z;
   t-is = ap busBytes are ∙ writes-cost (r .settings) ws inside ∙ pending-cost r first n t z;
   list-is = ap (encode (r .header .bus) (r .header .pins)) are ∙ list-written (r .header) (r .settings) ws inside;
-  stored-is = ap (λ (bs : List Burst). storeAll bs (r .image)) are;
 }
   where
     ws : List Write
@@ -186,62 +173,46 @@ sends r s first n t z = record {
 
 -- ---- update_parts
 
-module _ (r : Record) (buffer : List ℕ) (first n t : ℕ) (e : soundOf r ≡ true) (z : ListSizes r first n t) where
-  size-is : listSize (writesOf r) ≡ 4 + 2 * n + t
-  size-is = let s = sends r (sound-is r e) first n t z in omega (arith, s .n-is, s .t-is)
+module _ (r : Record) (buffer : List ℕ) where
+  -- what the call answers, and the buffer as it leaves it
+  abbrev pub Outcome : ListAnswer → List ℕ → Type 0
+  Outcome answer new = (answer ≡ updateAnswer r (length buffer)) × (new ≡ updateBuffer r buffer)
 
-  update-short : length buffer < 4 + 2 * n + t →
-      Leaves r (updating r) buffer (Short (4 + 2 * n + t)) (r .image) buffer
-  update-short h = rw (← size-is) (send-short r (updating r) buffer refl e (omega (arith, size-is)))
+  outcome : (answer : ListAnswer) (image new : List ℕ) → Leaves r (updating r) buffer answer image new → Outcome answer new
+  outcome answer image new l = (l .answer-is, l .buffer-is)
 
-  update-listed : (new : List ℕ) → 4 + 2 * n + t ≤ length buffer →
-      new ≡ sets buffer 0 (writesBytes (r .header) (r .settings) (pending r first)) →
-      Leaves r (updating r) buffer (Listed n t) (storeWrites (r .settings) (pending r first) (r .image)) new
-  update-listed new h en =
-      let s = sends r (sound-is r e) first n t z in
-      let l = send-listed r (updating r) buffer e (omega (arith, size-is)) in
-      let list : List ℕ = encode (r .header .bus) (r .header .pins) (writesOf r) in
-      record {
-        answer-is = ap₂ Listed (sym (s .n-is)) (sym (s .t-is)) ∙ l .answer-is;
-        image-is = sym (s .stored-is) ∙ l .image-is;
-        buffer-is =
-            en ∙ ap (sets buffer 0) (sym (s .list-is))
-            ∙ sets-front list buffer (omega (arith, encode-length (r .header .bus) (r .header .pins) (writesOf r), size-is)) ∙ l .buffer-is;
-      }
+  pub parts-unsound : soundOf r ≡ false → Outcome (Refused Unsound) buffer
+  parts-unsound e = outcome _ _ _ (send-unsound r (updating r) buffer e)
 
-module _ (h : Header) (settings old image buffer : List ℕ) where
-  -- what the call leaves: its answer, the image that was a copy of the old one, and the buffer
-  abbrev pub Outcome : ListAnswer → List ℕ → List ℕ → Type 0
-  Outcome answer taken new =
-      let r = recordOf h settings old in
-      (answer ≡ updateAnswer r (length buffer)) × ((image ≡ old → taken ≡ updateOf r (length buffer) .host .image) × (new ≡ updateBuffer r buffer))
+  module _ (first n t : ℕ) (e : soundOf r ≡ true) (z : ListSizes r first n t) where
+    abbrev s : Sends r first n t
+    s = sends r (sound-is r e) first n t z
 
-  pub parts-unsound : soundOf (recordOf h settings old) ≡ false → Outcome (Refused Unsound) image buffer
-  parts-unsound e =
-      let l = send-unsound (recordOf h settings old) (updating (recordOf h settings old)) buffer e in
-      (l .answer-is, (λ q. q ∙ l .image-is, l .buffer-is))
+    size-is : listSize (writesOf r) ≡ 4 + 2 * n + t
+    size-is = omega (arith, s .n-is, s .t-is)
 
-  module _ (first n t : ℕ) (matrix : Matrix) (em : matrix ≡ matrixOf h) (e : soundOf (recordOf h settings old) ≡ true)
-      (z : ListSizes (recordOf (matrix .header) settings old) first n t) where
-    same : matrix .header ≡ h
-    same = ap (λ (x : Matrix). x .header) em
+    pub parts-short : length buffer < 4 + 2 * n + t → Outcome (Short (4 + 2 * n + t)) buffer
+    parts-short h = rw (← size-is) (outcome _ _ _ (send-short r (updating r) buffer refl e (omega (arith, size-is))))
 
-    sizes : ListSizes (recordOf h settings old) first n t
-    sizes = subst (λ (x : Header). ListSizes (recordOf x settings old) first n t) same z
-
-    pub parts-short : length buffer < 4 + 2 * n + t → Outcome (Short (4 + 2 * n + t)) image buffer
-    parts-short short =
-        let l = update-short (recordOf h settings old) buffer first n t e sizes short in
-        (l .answer-is, (λ q. q ∙ l .image-is, l .buffer-is))
-
-    pub parts-listed : (taken new : List ℕ) → 4 + 2 * n + t ≤ length buffer →
-        new ≡ sets buffer 0 (writesBytes (matrix .header) settings (pending (recordOf (matrix .header) settings old) first)) →
-        taken ≡ storeWrites settings (pending (recordOf (matrix .header) settings old) first) image →
-        Outcome (Listed n t) taken new
-    parts-listed taken new room en et =
-        let list = ap (λ (x : Header). sets buffer 0 (writesBytes x settings (pending (recordOf x settings old) first))) same in
-        let stored = ap (λ (x : Header). storeWrites settings (pending (recordOf x settings old) first) image) same in
-        let l = update-listed (recordOf h settings old) buffer first n t e sizes new room (en ∙ list) in (
-          l .answer-is,
-          (λ q. et ∙ stored ∙ ap (storeWrites settings (pending (recordOf h settings old) first)) q ∙ l .image-is, l .buffer-is),
+    pub parts-listed : (new : List ℕ) → 4 + 2 * n + t ≤ length buffer → new ≡ sets buffer 0 (writesBytes (r .header) (r .settings) (pending r first)) →
+        Outcome (Listed n t) new
+    parts-listed new h en =
+        let l = send-listed r (updating r) buffer e (omega (arith, size-is)) in
+        let list : List ℕ = encode (r .header .bus) (r .header .pins) (writesOf r) in (
+          ap₂ Listed (sym (s .n-is)) (sym (s .t-is)) ∙ l .answer-is,
+          en ∙ ap (sets buffer 0) (sym (s .list-is))
+              ∙ sets-front list buffer (omega (arith, encode-length (r .header .bus) (r .header .pins) (writesOf r), size-is)) ∙ l .buffer-is,
         )
+
+-- the same by the header that a table of the call has
+module _ (h : Header) (settings image : List ℕ) (matrix : Matrix) (em : matrix ≡ matrixOf h) where
+  same : matrix .header ≡ h
+  same = ap (λ (x : Matrix). x .header) em
+
+  pub sized : (first n t : ℕ) → ListSizes (recordOf (matrix .header) settings image) first n t → ListSizes (recordOf h settings image) first n t
+  sized first n t z = subst (λ (x : Header). ListSizes (recordOf x settings image) first n t) same z
+
+  pub listed : (first : ℕ) (buffer new : List ℕ) →
+      new ≡ sets buffer 0 (writesBytes (matrix .header) settings (pending (recordOf (matrix .header) settings image) first)) →
+      new ≡ sets buffer 0 (writesBytes h settings (pending (recordOf h settings image) first))
+  listed first buffer new e = e ∙ ap (λ (x : Header). sets buffer 0 (writesBytes x settings (pending (recordOf x settings image) first))) same
