@@ -97,19 +97,19 @@ pub record Rival (m b p : ℕ) (before after : World) (l : List ℕ) : Type 0 wh
 
 -- ---- The claim
 
--- An Update on the world w, with this buffer, is accepted and answers n and t;
-abbrev pub UpdateAnswers : World → List ℕ → ℕ → ℕ → Type 0
-UpdateAnswers w buffer n t = stepOf w Update buffer .answer ≡ answers.the-variants.List (Listed n t)
+-- An Update on the world w, with this buffer, is accepted and answers n, t and how many image bytes it stored;
+abbrev pub UpdateAnswers : World → List ℕ → ℕ → ℕ → ℕ → Type 0
+UpdateAnswers w buffer n t stored = stepOf w Update buffer .answer ≡ answers.the-variants.Update (Listed n t) stored
 
 -- and this is the list that it wrote.
 abbrev pub updateList : World → List ℕ → ℕ → ℕ → List ℕ
 updateList w buffer n t = listIn n t (stepOf w Update buffer .lent)
 
--- The events, of which the first gets the world w, are those `before`, an Update with this buffer that answers n and t, and those
+-- The events, of which the first gets the world w, are those `before`, an Update with this buffer that answers n, t and stored, and those
 -- `behind` it.
-pub record Updates (w : World) (events before behind : List Event) (buffer : List ℕ) (n t : ℕ) : Type 0 where
+pub record Updates (w : World) (events before behind : List Event) (buffer : List ℕ) (n t stored : ℕ) : Type 0 where
   pub events-are : events ≡ before ++ (call (record { request = Update; lent = buffer }) ∷ behind)
-  pub answers : UpdateAnswers (run w before) buffer n t
+  pub answers : UpdateAnswers (run w before) buffer n t stored
 
 module _ (m b p : ℕ) where
   -- What is owed behind an accepted Update that wrote `list` and answered n and t: `before` and `after` are the worlds before and after
@@ -130,14 +130,14 @@ module _ (m b p : ℕ) where
   -- the bytes s.
   pub record Demand3 (s : List ℕ) (w : World) (events : List Event) : Type 0 where
     -- demand 3: "no update names an address outside the member's writable ones": no accepted Update, wherever it stands
-    pub names : (before behind : List Event) (buffer : List ℕ) (n t : ℕ) → Updates w events before behind buffer n t →
+    pub names : (before behind : List Event) (buffer : List ℕ) (n t stored : ℕ) → Updates w events before behind buffer n t stored →
         AllAllowed b p (run w before .host .header) (transactions (updateList (run w before) buffer n t))
     -- and no part, wherever it stands: its list is the one that the chip hears, since the record keeps the bus and pins that Open was given
     -- (`header-after` of WorldLaws)
     pub part-names : (before behind : List Event) (room : ℕ) → events ≡ before ++ (part room ∷ behind) →
         AllAllowed b p (run w before .host .header) (transactions (encode b p (partOf (run w before) room)))
     -- demand 3: "and if the last call is an accepted update"; Q-3: "the fewest-bytes rule then covers plain updates only"
-    pub last : (before : List Event) (buffer : List ℕ) (n t : ℕ) → Updates w events before [] buffer n t →
+    pub last : (before : List Event) (buffer : List ℕ) (n t stored : ℕ) → Updates w events before [] buffer n t stored →
         Owed (entries m s (told w events)) (run w before) (run w events) (updateList (run w before) buffer n t) n t
     -- Q-3: "but the register values are owed once a chip wanted on is finished", whatever the last event was. "A chip is finished when its
     -- pending list is empty."

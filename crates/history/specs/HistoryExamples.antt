@@ -27,9 +27,15 @@ use Rattle.history.specs.Step.{callNumbers, listIn, stepOf, clearStep}
 
 -- "a definition states this paper's number and values for each case of the enum"
 call-answers : List CallAnswer
-call-answers = answers.Setting (numbersOf (6 ∷ [])) ∷ answers.List (lists.Listed 3 9) ∷ answers.List (lists.Short 19) ∷ []
+call-answers =
+    answers.Setting (numbersOf (6 ∷ []))
+    ∷ answers.List (lists.Listed 1 3)
+    ∷ answers.Update (lists.Listed 3 9) 3
+    ∷ answers.Update (lists.Short 19) 0
+    ∷ []
 
-numbers-and-values : map (λ (x : CallAnswer). numbersIn (callNumbers x)) call-answers ≡ (6 ∷ []) ∷ (0 ∷ 3 ∷ 9 ∷ []) ∷ (10 ∷ 19 ∷ []) ∷ []
+numbers-and-values : map (λ (x : CallAnswer). numbersIn (callNumbers x)) call-answers
+    ≡ (6 ∷ []) ∷ (0 ∷ 1 ∷ 3 ∷ []) ∷ (0 ∷ 3 ∷ 9 ∷ 3 ∷ []) ∷ (10 ∷ 19 ∷ []) ∷ []
 unfolding call-answers numbersIn numbersOf
 numbers-and-values = refl
 

@@ -49,13 +49,3 @@ module _ (h : Header) where
   pub hear-all-is : (rs : List ℕ) (xs : List Burst) → hearAll (h .member) rs xs ≡ feedBy (mayWrite h) 908 machine rs xs
   hear-all-is rs [] = refl
   hear-all-is rs (x ∷ xs) = hear-all-is (hear (h .member) rs x) xs
-
-  -- writes to such addresses have data,
-  pub good-some : (xs : List Burst) → AllGood (mayWrite h) 908 (map writeOf xs) → AllData xs
-  good-some [] g = tt
-  good-some (x ∷ xs) g = (g .0 .some, good-some xs (g .1))
-
-  -- and addresses of ten bits
-  pub good-named : (xs : List Burst) → AllGood (mayWrite h) 908 (map writeOf xs) → AllNamed xs
-  good-named [] g = tt
-  good-named (x ∷ xs) g = (omega (arith, g .0 .some, g .0 .fits), good-named xs (g .1))

@@ -16,8 +16,9 @@ use Rattle.host.specs.declared.Changed.{Changed}
 use Rattle.host.specs.Record.{recordOf, settingOf, powerLostOf}
 use Rattle.update.specs.declared.ListAnswer.{ListAnswer}
 use Rattle.update.specs.declared.ListAnswer.the-variants.{Listed, Short, Refused}
+use Rattle.update.specs.declared.Sent.{Sent}
 use Rattle.update.specs.declared.Updated.{Updated}
-use Rattle.update.specs.Update.{listNumbers, Sending, sendOf, sendBuffer, writesOf, updating, resetting, clearing}
+use Rattle.update.specs.Update.{listNumbers, updateNumbers, Sending, sendOf, sendBuffer, writesOf, updateOf, updateBuffer, resetting, clearing}
 use Rattle.chip.specs.declared.Chip.{Chip}
 use Rattle.chip.specs.Chip.{feedOf}
 use Rattle.history.specs.declared.World.{World}
@@ -27,10 +28,11 @@ use Rattle.history.specs.declared.Stepped.{Stepped}
 -- ---- Answers
 
 -- "a definition states this paper's number and values for each case of the enum": a setting and Power lost answer those of their call
--- (`settingNumbers` of host), a call that writes a list what the list's answer has
+-- (`settingNumbers` of host), a call that writes a list what the list's answer has, and Update how many image bytes it stored as well
 abbrev pub callNumbers : answers.CallAnswer → Numbers
 callNumbers (answers.the-variants.Setting numbers) = numbers
 callNumbers (answers.the-variants.List answer) = numbersOf (listNumbers answer)
+callNumbers (answers.the-variants.Update answer stored) = numbersOf (updateNumbers answer stored)
 
 -- ---- What the chip gets
 
@@ -71,23 +73,31 @@ changeStep x c lent = record {
 }
 
 -- a call that wrote a list, with the buffer after it and the chip before it
-abbrev pub listStep : Updated → List ℕ → Chip → Step
+abbrev pub listStep : Sent → List ℕ → Chip → Step
 listStep x buffer c = record {
   answer = answers.the-variants.List (x .answer);
   world = record { host = x .host; chip = fedBy (x .answer) buffer c };
   lent = buffer;
 }
 
--- every call that sends is such a one
+-- Reset and Clear are such ones
 abbrev pub sendStep : World → Sending → List ℕ → Step
 sendStep w x buffer = listStep (sendOf (w .host) x (length buffer)) (sendBuffer (w .host) x buffer) (w .chip)
+
+-- so is Update, which "also answers how many image bytes it stored" (Q-4)
+abbrev pub updateStep : Updated → List ℕ → Chip → Step
+updateStep x buffer c = record {
+  answer = answers.the-variants.Update (x .answer) (x .stored);
+  world = record { host = x .host; chip = fedBy (x .answer) buffer c };
+  lent = buffer;
+}
 
 -- "at Power lost the chip loses power."
 abbrev pub stepOf : World → Request → List ℕ → Step
 stepOf w (Set q) lent = changeStep (settingOf (w .host) q lent) (w .chip) lent
 stepOf w Reset lent = sendStep w (resetting (w .host)) lent
 stepOf w PowerLost lent = changeStep (powerLostOf (w .host)) (Rattle.chip.specs.Chip.powerLostOf (w .chip)) lent
-stepOf w Update lent = sendStep w (updating (w .host)) lent
+stepOf w Update lent = updateStep (updateOf (w .host) (length lent)) (updateBuffer (w .host) lent) (w .chip)
 
 -- ---- A part: document 02, Q-3
 

@@ -3,7 +3,7 @@
 use mathlib.Core.Path.{_≡_, refl, sym, ap, ap₂, _∙_, subst}
 use mathlib.Core.Bool.{true, cond}
 use mathlib.Core.List.{List, [], _∷_, map}
-use Prim.Native.Nat.{ℕ, _≤_}
+use Prim.Native.Nat.{ℕ, _-_, _*_, _≤_}
 use native.Mathlib.Omega.{arith}
 use lib.Dec.{leb}
 use lib.ListN.{length}
@@ -29,6 +29,7 @@ use Rattle.update.specs.declared.ListAnswer.the-variants.{Listed, Short, Refuse
 use Rattle.update.specs.Update.{over, sendAnswer, sendOf, writesOf, updating, updateOf}
 use Rattle.update.specs.SendLaws.{Answered, answered, list-is, host-is, answer-of}
 use Rattle.update.specs.BoundLaws.{update-sendable, names-writable}
+use Rattle.update.specs.StoredLaws.{stored-is}
 use Rattle.chip.specs.declared.Chip.{Chip}
 use Rattle.chip.specs.declared.Fed.{Fed}
 use Rattle.chip.specs.Chip.{chipOf, feedOf}
@@ -46,6 +47,13 @@ use Rattle.history.specs.RivalLaws.{all-writes, all-good, all-own}
 abbrev pub listOf : answers.CallAnswer → ListAnswer
 listOf (answers.the-variants.Setting numbers) = Refused Unsound
 listOf (answers.the-variants.List answer) = answer
+listOf (answers.the-variants.Update answer stored) = answer
+
+-- and what an update stored
+abbrev storedOf : answers.CallAnswer → ℕ
+storedOf (answers.the-variants.Setting numbers) = 0
+storedOf (answers.the-variants.List answer) = 0
+storedOf (answers.the-variants.Update answer stored) = stored
 
 -- ---- an Update of a world for which the invariant holds
 
@@ -120,7 +128,7 @@ module _ (m b p : ℕ) (o : opens m b p ≡ true) (s : List ℕ) (w : World) (h 
 
   -- ---- and it answered n and t
 
-  module _ (buffer : List ℕ) (n t : ℕ) (e : UpdateAnswers world buffer n t) where
+  module _ (buffer : List ℕ) (n t stored : ℕ) (e : UpdateAnswers world buffer n t stored) where
     answer : sendAnswer host (updating host) (length buffer) ≡ Listed n t
     answer = sym (answer-of host (updating host) (length buffer)) ∙ ap listOf e
 
@@ -173,16 +181,16 @@ module _ (m b p : ℕ) (o : opens m b p ≡ true) (s : List ℕ) (w : World) (h 
         ∙ update-again (mayWrite header) 908 s (h .image) (ready m b p o s w h .images)
 
   -- what is owed behind it
-  pub update-owes : (buffer : List ℕ) (n t : ℕ) → UpdateAnswers w buffer n t →
+  pub update-owes : (buffer : List ℕ) (n t stored : ℕ) → UpdateAnswers w buffer n t stored →
       Owed m b p s w (stepOf w Update buffer .world) (updateList w buffer n t) n t
-  update-owes buffer n t =
-      subst (λ (x : World). UpdateAnswers x buffer n t → Owed m b p s x (stepOf x Update buffer .world) (updateList x buffer n t) n t)
-      (sym (h .is)) (owed-here buffer n t)
+  update-owes buffer n t stored =
+      subst (λ (x : World). UpdateAnswers x buffer n t stored → Owed m b p s x (stepOf x Update buffer .world) (updateList x buffer n t) n t)
+      (sym (h .is)) (owed-here buffer n t stored)
 
   -- and that nothing is left to send
-  pub update-ends : (buffer : List ℕ) (n t : ℕ) → UpdateAnswers w buffer n t → writesOf (stepOf w Update buffer .world .host) ≡ []
-  update-ends buffer n t =
-      subst (λ (x : World). UpdateAnswers x buffer n t → writesOf (stepOf x Update buffer .world .host) ≡ []) (sym (h .is)) (ended-here buffer n t)
+  pub update-ends : (buffer : List ℕ) (n t stored : ℕ) → UpdateAnswers w buffer n t stored → writesOf (stepOf w Update buffer .world .host) ≡ []
+  update-ends buffer n t stored =
+      subst (λ (x : World). UpdateAnswers x buffer n t stored → writesOf (stepOf x Update buffer .world .host) ≡ []) (sym (h .is)) (ended-here buffer n t stored)
 
   -- Q-3: "the register values are owed once a chip wanted on is finished"
   pub finished-values : writesOf (w .host) ≡ [] → wantsOn s ≡ true → SameWritable m (w .chip .registers) s
@@ -200,7 +208,7 @@ module _ (m b p : ℕ) (o : opens m b p ≡ true) (s : List ℕ) (w : World) (h 
 
 -- ---- the last event of a list
 
-module _ (m b p : ℕ) (o : opens m b p ≡ true) (s : List ℕ) (w : World) (h : Holds m b p s w) (events before : List Event) (buffer : List ℕ) (n t : ℕ) where
+module _ (m b p : ℕ) (o : opens m b p ≡ true) (s : List ℕ) (w : World) (h : Holds m b p s w) (events before : List Event) (buffer : List ℕ) (n t stored : ℕ) where
   abbrev earlier : World
   earlier = run w before
 
@@ -214,10 +222,10 @@ module _ (m b p : ℕ) (o : opens m b p ≡ true) (s : List ℕ) (w : World) (h 
   update = call (record { request = Update; lent = buffer }) ∷ []
 
   -- what is owed behind an accepted Update, wherever it stands
-  owed : UpdateAnswers earlier buffer n t → Owed m b p ledger-earlier earlier (stepOf earlier Update buffer .world) (updateList earlier buffer n t) n t
-  owed = update-owes m b p o ledger-earlier earlier holds-earlier buffer n t
+  owed : UpdateAnswers earlier buffer n t stored → Owed m b p ledger-earlier earlier (stepOf earlier Update buffer .world) (updateList earlier buffer n t) n t
+  owed = update-owes m b p o ledger-earlier earlier holds-earlier buffer n t stored
 
-  module _ (u : Updates w events before [] buffer n t) where
+  module _ (u : Updates w events before [] buffer n t stored) where
     abbrev ledger-now : List ℕ
     ledger-now = entries m s (told w events)
 
@@ -240,15 +248,15 @@ module _ (m b p : ℕ) (o : opens m b p ≡ true) (s : List ℕ) (w : World) (h 
         let so : soundOf (run w events .host) ≡ true =
         ap (λ (x : World). soundOf (x .host)) (k .is) ∙ is-so m b p o ledger-now (run w events) k in
         let none : writesOf (run w events .host) ≡ [] =
-        ap (λ (x : World). writesOf (x .host)) world-last ∙ update-ends m b p o ledger-earlier earlier holds-earlier buffer n t (u .answers) in
+        ap (λ (x : World). writesOf (x .host)) world-last ∙ update-ends m b p o ledger-earlier earlier holds-earlier buffer n t stored (u .answers) in
         rw (so, none) refl
 
 -- Demand 3, from wherever the invariant holds
 pub holds-owes : (m b p : ℕ) → opens m b p ≡ true → (s : List ℕ) (w : World) → Holds m b p s w → (events : List Event) → Demand3 m b p s w events
 holds-owes m b p o s w h events = record {
-  names = λ before behind buffer n t u. owed m b p o s w h events before buffer n t (u .answers) .own .writes;
+  names = λ before behind buffer n t stored u. owed m b p o s w h events before buffer n t stored (u .answers) .own .writes;
   part-names = λ before behind room e. part-allowed m b p o (entries m s (told w before)) (run w before) (run-holds m b p o before s w h) room;
-  last = λ before buffer n t u. last-update m b p o s w h events before buffer n t u;
+  last = λ before buffer n t stored u. last-update m b p o s w h events before buffer n t stored u;
   finished = finished-values m b p o (entries m s (told w events)) (run w events) (run-holds m b p o events s w h);
 }
 
@@ -261,8 +269,12 @@ pub whole-lists : WholeLists
 whole-lists m b p e events = holds-owes m b p (opened m b p e) (resetImage m) (start m b p) (start-holds m b p (opened m b p e)) events
 
 -- A second Update at once sends nothing: its list has no transaction, and asks for 4 bytes of buffer.
-pub second-update : (m b p : ℕ) → accepted (openOf m b p .answer) ≡ true → (events before : List Event) (buffer : List ℕ) (n t : ℕ) →
-    Updates (start m b p) events before [] buffer n t → (size : ℕ) →
+pub second-update : (m b p : ℕ) → accepted (openOf m b p .answer) ≡ true → (events before : List Event) (buffer : List ℕ) (n t stored : ℕ) →
+    Updates (start m b p) events before [] buffer n t stored → (size : ℕ) →
     updateOf (worldAfter m b p events .host) size .answer ≡ cond (leb 4 size) (Listed 0 0) (Short 4)
-second-update m b p e events before buffer n t u size =
-    answer-again m b p (opened m b p e) (resetImage m) (start m b p) (start-holds m b p (opened m b p e)) events before buffer n t u size
+second-update m b p e events before buffer n t stored u size =
+    answer-again m b p (opened m b p e) (resetImage m) (start m b p) (start-holds m b p (opened m b p e)) events before buffer n t stored u size
+
+-- Q-4: of every accepted Update, wherever it stands, what it answers that it stored "is t less 2n".
+pub stored-so : (w : World) (buffer : List ℕ) (n t stored : ℕ) → UpdateAnswers w buffer n t stored → stored ≡ t - 2 * n
+stored-so w buffer n t stored e = sym (ap storedOf e) ∙ stored-is (w .host) (length buffer) n t (ap listOf e)

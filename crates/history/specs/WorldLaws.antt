@@ -38,7 +38,7 @@ use Rattle.update.specs.declared.ListAnswer.{ListAnswer}
 use Rattle.update.specs.declared.ListAnswer.the-variants.{Listed, Short, Refused}
 use Rattle.update.specs.Update.{isListed, listSize, over, Sending, sendAnswer, sendOf, sendBuffer, writesOf, updating, resetting}
 use Rattle.update.specs.UpdateLaws.{enable-byte, image-layout, store-image, update-fits}
-use Rattle.update.specs.BoundLaws.{bus-most, names-writable}
+use Rattle.update.specs.BoundLaws.{good-data, good-named, bus-most, names-writable}
 use Rattle.chip.specs.declared.Chip.{Chip}
 use Rattle.chip.specs.declared.Fed.{Fed}
 use Rattle.chip.specs.Chip.{chipOf, newChip, atResetOf, feedOf}
@@ -49,7 +49,7 @@ use Rattle.history.specs.Ledger.{entry, Told, toldOf, entered, entries}
 use Rattle.history.specs.LedgerLaws.{setting-enters, entry-image, entries-append}
 use Rattle.history.specs.Step.{listIn, fedBy, sendStep, stepOf, partOf, sentTo, partStep}
 use Rattle.history.specs.History.{Call, Event, call, part, eventStep, start, run, worldAfter, tell, told, ledgerAfter}
-use Rattle.history.specs.MachineLaws.{may-writable, writable-may, machine, hear-all-is, good-some, good-named}
+use Rattle.history.specs.MachineLaws.{may-writable, writable-may, machine, hear-all-is}
 
 -- ---- lists that are answered
 
@@ -209,8 +209,8 @@ module _ (m b p : ℕ) (o : opens m b p ≡ true) where
       begun-sendable =
           let good : AllGood (mayWrite header) 908 (map writeOf xs) = begins-good (mayWrite header) 908 xs (writesOf host) g (names-writable host is-so) in
           record {
-            some = good-some header xs good;
-            named = good-named header xs good;
+            some = good-data (mayWrite header) xs good;
+            named = good-named (mayWrite header) xs good;
             good = good;
             short = omega (arith, begins-bytes xs (writesOf host) g, bus-most host is-so);
           }

@@ -1,12 +1,13 @@
 // The calls that write a list: what is answered is fed to the chip at once, exactly its 4 + 2n + t bytes.
 ghost use mathlib.Core.Path.{_≡_};
 ghost use lib.ListN.{length};
-ghost use Rattle.history.specs.Step.{Within, fedBy, leaving, listStep};
+ghost use Rattle.history.specs.Step.{Within, fedBy, leaving, listStep, updateStep};
 use crate::CallAnswer;
 use crate::Stepped;
 use crate::World;
 use chip::Chip;
 use update::ListAnswer;
+use update::Sent;
 use update::Updated;
 
 // The chip after the list that was answered.
@@ -27,13 +28,13 @@ fn fed(answer: ListAnswer, chip: Chip, buffer: &[u8]) -> Chip
     }
 }
 
-// What such a call gave back, and the buffer that it left.
-pub(crate) fn listed(updated: Updated, chip: Chip, buffer: &[u8]) -> Stepped
-    requires { ⌜ Within (updated .answer) (length (now buffer)) ⌝ }
-    ensures { λ r. ⌜ leaving r (now (buffer .entry)) ≡ listStep updated (now (buffer .entry)) chip ⌝ }
+// What Reset or Clear gave back, and the buffer that it left.
+pub(crate) fn listed(sent: Sent, chip: Chip, buffer: &[u8]) -> Stepped
+    requires { ⌜ Within (sent .answer) (length (now buffer)) ⌝ }
+    ensures { λ r. ⌜ leaving r (now (buffer .entry)) ≡ listStep sent (now (buffer .entry)) chip ⌝ }
 {
-    let answer = updated.answer;
-    let host = updated.host;
+    let answer = sent.answer;
+    let host = sent.host;
     let after = fed(answer, chip, buffer);
     let world = World {
         host: host,
@@ -41,6 +42,28 @@ pub(crate) fn listed(updated: Updated, chip: Chip, buffer: &[u8]) -> Stepped
     };
     Stepped {
         answer: CallAnswer::List(answer),
+        world: world,
+    }
+}
+
+// What Update gave back, and the buffer that it left.
+pub(crate) fn updated(updated: Updated, chip: Chip, buffer: &[u8]) -> Stepped
+    requires { ⌜ Within (updated .answer) (length (now buffer)) ⌝ }
+    ensures { λ r. ⌜ leaving r (now (buffer .entry)) ≡ updateStep updated (now (buffer .entry)) chip ⌝ }
+{
+    let answer = updated.answer;
+    let stored = updated.stored;
+    let host = updated.host;
+    let after = fed(answer, chip, buffer);
+    let world = World {
+        host: host,
+        chip: after,
+    };
+    Stepped {
+        answer: CallAnswer::Update {
+            list: answer,
+            stored: stored,
+        },
         world: world,
     }
 }

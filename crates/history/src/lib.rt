@@ -25,10 +25,12 @@ pub struct World {
     pub chip: Chip,
 }
 
-// What a call answers: a setting or Power lost a number and the values that come with it, the others a list.
+// What a call answers: a setting or Power lost a number and the values that come with it, the others a list; an update also how many bytes
+// of the chip image it stored.
 pub enum CallAnswer {
     Setting(Numbers),
     List(ListAnswer),
+    Update { list: ListAnswer, stored: usize },
 }
 
 // The answer, and the world after the call.
@@ -50,6 +52,7 @@ pub fn call_numbers(answer: CallAnswer) -> Numbers
     match answer {
         CallAnswer::Setting(numbers) => numbers,
         CallAnswer::List(list) => update::list_numbers(list),
+        CallAnswer::Update { list, stored } => update::update_numbers(list, stored),
     }
 }
 
@@ -62,8 +65,8 @@ pub fn step(world: World, request: Request, lent: &mut [u8]) -> Stepped
     match request {
         Request::Set(setting) => changed(host::set(host, setting, lent), chip),
         Request::Reset => {
-            let updated = update::reset(host, lent);
-            feeding::listed(updated, chip, lent)
+            let sent = update::reset(host, lent);
+            feeding::listed(sent, chip, lent)
         }
         Request::PowerLost => {
             let after = host::power_lost(host);
@@ -72,7 +75,7 @@ pub fn step(world: World, request: Request, lent: &mut [u8]) -> Stepped
         }
         Request::Update => {
             let updated = update::update(host, lent);
-            feeding::listed(updated, chip, lent)
+            feeding::updated(updated, chip, lent)
         }
     }
 }
@@ -99,8 +102,8 @@ pub fn clear(world: World, buffer: &mut [u8]) -> Stepped
 {
     let host = world.host;
     let chip = world.chip;
-    let updated = update::clear(host, buffer);
-    feeding::listed(updated, chip, buffer)
+    let sent = update::clear(host, buffer);
+    feeding::listed(sent, chip, buffer)
 }
 
 // The ledger of a newly opened member. A member above 4 is never opened, and gives the ledger of member 0.

@@ -73,13 +73,10 @@ deal-ready share left (c ∷ cs) h =
 -- ---- Pending lists
 
 pub update-portionable : (r : Record) → soundOf r ≡ true → Portionable (writesOf r)
-update-portionable r e room = (good-data ok (portion room (writesOf r)) good, good-named ok (portion room (writesOf r)) good)
-  where
-    abbrev ok : ℕ → Bool
-    ok = mayWrite (r .header)
-
-    good : AllGood ok 908 (map writeOf (portion room (writesOf r)))
-    good = begins-good ok 908 (portion room (writesOf r)) (writesOf r) (portion-begins room (writesOf r)) (names-writable r e)
+update-portionable r e room =
+    let good =
+    begins-good (mayWrite (r .header)) 908 (portion room (writesOf r)) (writesOf r) (portion-begins room (writesOf r)) (names-writable r e) in
+    (good-data (mayWrite (r .header)) (portion room (writesOf r)) good, good-named (mayWrite (r .header)) (portion room (writesOf r)) good)
 
 none-portionable : Portionable []
 none-portionable room = subst (λ (xs : List Burst). AllData xs × AllNamed xs) (sym (portion-empty room)) (tt, tt)

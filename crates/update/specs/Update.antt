@@ -98,7 +98,7 @@ abbrev pub updateStored : Record → ℕ → ℕ
 updateStored r size = cond (isListed (updateAnswer r size)) (dataBytes (writesOf r)) 0
 
 abbrev pub updateOf : Record → ℕ → Updated
-updateOf r size = record { answer = updateAnswer r size; stored = updateStored r size; host = sendOf r (updating r) size .host }
+updateOf r size = record { answer = sendOf r (updating r) size .answer; stored = updateStored r size; host = sendOf r (updating r) size .host }
 
 abbrev pub updateBuffer : Record → List ℕ → List ℕ
 updateBuffer r buffer = sendBuffer r (updating r) buffer

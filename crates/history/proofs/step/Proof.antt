@@ -1,9 +1,9 @@
 -- `history::step` meets its contract.
 -- Assumes nothing.
 use mathlib.Core.Path.{refl}
-use Rattle.update.specs.Update.{updating, resetting}
+use Rattle.update.specs.Update.{resetting}
 use Rattle.history.proofs.Calls.{step-is, change-is}
-use Rattle.history.proofs.FedLists.{within, sent-is}
+use Rattle.history.proofs.FedLists.{within, update-within, sent-is, update-is}
 use borrow.Author.Needs.{needs}
 use Rattle.history.proofs.step.Statement.{statement}
 use Rattle.history.proofs.step.Tie as tie
@@ -44,8 +44,8 @@ enum-told-3 c = search needs
 update-requires : tie.Need-update-requires
 update-requires c κs = search needs
 
-listed-requires-2 : tie.Need-listed-requires-2
-listed-requires-2 c κs = within updating _ refl _ _ _ (c .before .before .before .update .ensures .0) (c .before .before .before .update .kept .1 .0)
+updated-requires : tie.Need-updated-requires
+updated-requires c κs = update-within _ _ _ _ (c .before .before .before .update .ensures .0) (c .before .before .before .update .kept .1 .0)
 
 same-length : tie.Need-same-length
 same-length c = search needs
@@ -74,7 +74,7 @@ returns-4 : tie.Need-returns-4
 returns-4 c =
     let called = c .before .before .before .before in
     step-is _ _ _ _ _ (called .before .before .enum-told3 .given .1)
-    (sent-is updating _ _ _ _ _ (c .listed2 .ensures) (called .update .ensures .0) (called .update .ensures .1))
+    (update-is _ _ _ _ _ (c .updated .ensures) (called .update .ensures .0) (called .update .ensures .1))
 
 pub step-spec : {M : Type 1} → statement M
 step-spec =
@@ -92,7 +92,7 @@ step-spec =
     changed-requires-2
     enum-told-3
     update-requires
-    listed-requires-2
+    updated-requires
     same-length
     returns
     same-length-2
