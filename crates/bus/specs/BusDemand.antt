@@ -28,10 +28,10 @@ abbrev pub updateAt : ℕ → List ℕ → BusCall
 updateAt k buffer = plain k (record { request = Update; lent = buffer })
 
 module _ (m b p : ℕ → ℕ) where
-  -- The calls are those `before`, an Update at place k with this buffer that answers n and t, and those `behind` it.
-  pub record UpdatesAt (k : ℕ) (calls before behind : List BusCall) (buffer : List ℕ) (n t : ℕ) : Type 0 where
+  -- The calls are those `before`, an Update at place k with this buffer that answers n, t and stored, and those `behind` it.
+  pub record UpdatesAt (k : ℕ) (calls before behind : List BusCall) (buffer : List ℕ) (n t stored : ℕ) : Type 0 where
     pub calls-are : calls ≡ before ++ (updateAt k buffer ∷ behind)
-    pub answers : UpdateAnswers (panelsAfter m b p before k) buffer n t
+    pub answers : UpdateAnswers (panelsAfter m b p before k) buffer n t stored
 
   -- The calls are those `before`, this round, which is accepted and answers n and t, and those `behind` it.
   pub record Rounds (calls before behind : List BusCall) (present : ℕ → Bool) (limit : ℕ) (buffer : List ℕ) (n t : ℕ) : Type 0 where
@@ -74,14 +74,15 @@ module _ (m b p : ℕ → ℕ) where
     pub each : (k : ℕ) → k < 4 → Demand3 (m k) (b k) (p k) (resetImage (m k)) (starts m b p k) (placeEvents m b p k calls)
     -- demand 3: "no update names an address outside the member's writable ones", those that may be written (`bus-may-write` of BusTheorem): no
     -- accepted Update of any place, wherever it stands
-    pub names : (k : ℕ) → k < 4 → (before behind : List BusCall) (buffer : List ℕ) (n t : ℕ) → UpdatesAt m b p k calls before behind buffer n t →
+    pub names : (k : ℕ) → k < 4 → (before behind : List BusCall) (buffer : List ℕ) (n t stored : ℕ) →
+        UpdatesAt m b p k calls before behind buffer n t stored →
         AllAllowed (b k) (p k) (panelsAfter m b p before k .host .header) (transactions (updateList (panelsAfter m b p before k) buffer n t))
     -- what is owed of each accepted round, wherever it stands
     pub rounds : (before behind : List BusCall) (present : ℕ → Bool) (limit : ℕ) (buffer : List ℕ) (n t : ℕ) →
         Rounds m b p calls before behind present limit buffer n t →
         RoundOwed b p (panelsAfter m b p before) present limit (listOfRound (panelsAfter m b p before) present limit buffer n t) n t
     -- demand 3: "and if the last call is an accepted update"; Q-3: "the fewest-bytes rule then covers plain updates only"
-    pub last : (k : ℕ) → k < 4 → (before : List BusCall) (buffer : List ℕ) (n t : ℕ) → UpdatesAt m b p k calls before [] buffer n t →
+    pub last : (k : ℕ) → k < 4 → (before : List BusCall) (buffer : List ℕ) (n t stored : ℕ) → UpdatesAt m b p k calls before [] buffer n t stored →
         Owed (m k) (b k) (p k) (ledgerAt m b p k calls) (panelsAfter m b p before k) (panelsAfter m b p calls k)
         (updateList (panelsAfter m b p before k) buffer n t) n t
     -- Q-3: "but the register values are owed once a chip wanted on is finished", whatever the last call was. "A chip is finished when its

@@ -155,13 +155,14 @@ module _ (m b p : ℕ → ℕ) (o : (k : ℕ) → k < 4 → opens (m k) (b k) (p
 
   -- ---- An Update at a place
 
-  owed : (k : ℕ) → k < 4 → (before : List BusCall) (buffer : List ℕ) (n t : ℕ) → UpdateAnswers (panelsAfter m b p before k) buffer n t →
+  owed : (k : ℕ) → k < 4 → (before : List BusCall) (buffer : List ℕ) (n t stored : ℕ) → UpdateAnswers (panelsAfter m b p before k) buffer n t stored →
       Owed (m k) (b k) (p k) (ledgerAt m b p k before) (panelsAfter m b p before k) (stepOf (panelsAfter m b p before k) Update buffer .world)
       (updateList (panelsAfter m b p before k) buffer n t) n t
-  owed k l before buffer n t =
-      update-owes (m k) (b k) (p k) (o k l) (ledgerAt m b p k before) (panelsAfter m b p before k) (bus-holds m b p o before k l) buffer n t
+  owed k l before buffer n t stored =
+      update-owes (m k) (b k) (p k) (o k l) (ledgerAt m b p k before) (panelsAfter m b p before k) (bus-holds m b p o before k l) buffer n t stored
 
-  module _ (k : ℕ) (l : k < 4) (calls before : List BusCall) (buffer : List ℕ) (n t : ℕ) (u : UpdatesAt m b p k calls before [] buffer n t) where
+  module _ (k : ℕ) (l : k < 4) (calls before : List BusCall) (buffer : List ℕ) (n t stored : ℕ)
+      (u : UpdatesAt m b p k calls before [] buffer n t stored) where
     world-last : panelsAfter m b p calls k ≡ stepOf (panelsAfter m b p before k) Update buffer .world
     world-last =
         ap (λ (xs : List BusCall). panelsAfter m b p xs k) (u .calls-are)
@@ -181,7 +182,7 @@ module _ (m b p : ℕ → ℕ) (o : (k : ℕ) → k < 4 → opens (m k) (b k) (p
         (sym world-last)
         (subst (λ (s : List ℕ). Owed (m k) (b k) (p k) s (panelsAfter m b p before k) (stepOf (panelsAfter m b p before k) Update buffer .world)
         (updateList (panelsAfter m b p before k) buffer n t) n t) (sym ledger-stays)
-        (owed k l before buffer n t (u .answers)))
+        (owed k l before buffer n t stored (u .answers)))
 
 -- Demand 3, for four places
 pub bus-whole-lists : BusWholeLists
@@ -189,10 +190,10 @@ bus-whole-lists m b p opened calls =
     let o : (k : ℕ) → k < 4 → opens (m k) (b k) (p k) ≡ true = all-opened m b p opened in
     record {
       each = λ k l. whole-lists (m k) (b k) (p k) (opened k l) (placeEvents m b p k calls);
-      names = λ k l before behind buffer n t u. owed m b p o k l before buffer n t (u .answers) .own .writes;
+      names = λ k l before behind buffer n t stored u. owed m b p o k l before buffer n t stored (u .answers) .own .writes;
       rounds = λ before behind present limit buffer n t u.
           round-owes m b p o (λ k. ledgerAt m b p k before) (panelsAfter m b p before) (bus-holds m b p o before) present limit buffer n t (u .answers);
-      last = λ k l before buffer n t u. last-owed m b p o k l calls before buffer n t u;
+      last = λ k l before buffer n t stored u. last-owed m b p o k l calls before buffer n t stored u;
       finished = λ k l.
           finished-values (m k) (b k) (p k) (o k l) (ledgerAt m b p k calls) (panelsAfter m b p calls k) (bus-holds m b p o calls k l);
     }

@@ -14,7 +14,7 @@ use Rattle.map.specs.Refusals.{refusalNumber}
 use Rattle.map.specs.Images.{resetImage}
 use Rattle.burst.specs.declared.places.Place.{Place}
 use Rattle.burst.specs.declared.places.Place.the-variants.{At, BadSizes, NoIndex}
-use Rattle.burst.specs.Burst.{busBytes, placeOf}
+use Rattle.burst.specs.Burst.{busBytes, dataBytes, placeOf}
 use Rattle.burst.specs.BurstLaws.{good-sizes}
 use Rattle.burst.specs.PlaceLaws.{transaction-stands, placed}
 use Rattle.host.specs.declared.Header.{Header}
@@ -22,12 +22,15 @@ use Rattle.host.specs.declared.Record.{Record}
 use Rattle.host.specs.Record.{recordOf, soundOf}
 use Rattle.update.specs.declared.ListAnswer.{ListAnswer}
 use Rattle.update.specs.declared.ListAnswer.the-variants.{Listed, Short, Refused}
-use Rattle.update.specs.Update.{isListed, listNumber, listSize, Sending, sendAnswer, sendOf, sendBuffer, writesOf, updateAnswer, command, resetting, resetAnswer}
+use Rattle.update.specs.Update.{isListed, listNumber, listSize, Sending, sendAnswer, sendOf, sendBuffer, writesOf, updating, updateAnswer, updateStored, updateOf, updateBuffer, command, resetting, resetAnswer}
+use Rattle.update.specs.Pieces.{UpdateSent}
+use Rattle.update.specs.SendLaws.{answer-of}
+use Rattle.update.specs.StoredLaws.{stored-is}
 use Rattle.update.specs.BoundLaws.{bus-most, writes-few, size-most}
-use Rattle.capi.specs.Capi.{headerIn, settingsIn, imageAt, imageIn, recordIn, recordBytes, recordSize, putImage, listAnswer, listBytes, bufferAfter, stored, nAfter, tAfter, neededAfter, Fits, placeNumbers}
+use Rattle.capi.specs.Capi.{headerIn, settingsIn, imageAt, imageIn, recordIn, recordBytes, recordSize, listAnswer, listBytes, bufferAfter, valueAfter, nAfter, tAfter, storedAfter, neededAfter, Fits, placeNumbers}
 use Rattle.capi.specs.Calls.{transactionCall}
-use Rattle.capi.specs.CapiLaws.{image-stored, record-sized, refused-stores}
-use Rattle.capi.proofs.InPlace.{putPart, part-length, image-last, image-put}
+use Rattle.capi.specs.CapiLaws.{record-sized, refused-stores}
+use Rattle.capi.proofs.InPlace.{putPart, part-length, image-put}
 
 -- ---- lists are short
 
@@ -84,20 +87,6 @@ module _ (f : Record → Sending) (bytes : List ℕ) (h : length bytes ≡ recor
     unfolding listBytes sendOf recordIn
     sent = rw (answer-is) (rw (sym answers) refl)
 
-    -- an image of the caller's own was changed, and then stored where a list was written
-    pub copied-back : (image new : List ℕ) → image ≡ sendOf (held header) (f (held header)) (length buffer) .host .image →
-        new ≡ cond (isListed answer) (putImage bytes imageAt image) bytes → new ≡ listBytes bytes (sendOf (recordIn bytes) (f (recordIn bytes)) (length buffer))
-    unfolding sendOf recordIn
-    copied-back image new ei en =
-        en ∙ ap (λ (l : List ℕ). cond (isListed answer) (putImage bytes imageAt l) bytes)
-        (ei ∙ ap (λ (x : Header). cond (isListed (sendAnswer (held x) (f (held x)) (length buffer))) (f (held x) .image) (imageIn bytes)) eh
-        ∙ ap (λ (x : ListAnswer). cond (isListed x) (f (recordIn bytes) .image) (imageIn bytes)) (sym answers))
-        ∙ choice (isListed answer) (cond (isListed answer) (f (recordIn bytes) .image) (imageIn bytes)) ∙ sym sent
-      where
-        choice : (b : Bool) (l : List ℕ) → cond b (putImage bytes imageAt l) bytes ≡ cond b (recordBytes (recordOf (headerIn bytes) (settingsIn bytes) l)) bytes
-        choice true l = image-last bytes h l ∙ sym (image-stored bytes h l)
-        choice false l = refl
-
 -- a Reset puts its image into its part of the bytes
 pub reset-back : (bytes : List ℕ) (h : length bytes ≡ recordSize) (header : Header) (eh : header ≡ headerIn bytes) (buffer part : List ℕ) (answer : ListAnswer) →
     (ea : answer ≡ resetAnswer (recordOf header (settingsIn bytes) (imageIn bytes)) (length buffer)) →
@@ -115,6 +104,45 @@ reset-back bytes h header eh buffer part answer ea ep =
     whole true = refl
     whole false = refl
 
+-- an update has its image take what was sent
+module _ (bytes : List ℕ) (h : length bytes ≡ recordSize) (header : Header) (eh : header ≡ headerIn bytes) (lent buffer : List ℕ) (answer : ListAnswer)
+    (ea : answer ≡ updateAnswer (held updating bytes h header eh lent answer header) (length lent))
+    (eb : buffer ≡ updateBuffer (held updating bytes h header eh lent answer header) lent) where
+  abbrev r : Record
+  r = recordOf header (settingsIn bytes) (imageIn bytes)
+
+  -- what storing it is told
+  pub sent-so : UpdateSent answer header (settingsIn bytes) (imageIn bytes) lent buffer
+  sent-so = record { answer-is = ea; buffer-is = eb }
+
+  pub update-back : (part : List ℕ) → part ≡ updateOf r (length lent) .host .image →
+      putPart imageAt 908 bytes part ≡ listBytes bytes (sendOf (recordIn bytes) (updating (recordIn bytes)) (length lent))
+  unfolding sendOf recordIn
+  update-back part ep =
+      ap (putPart imageAt 908 bytes)
+      (ep ∙ ap (λ (x : ListAnswer). cond (isListed x) (updating r .image) (imageIn bytes)) (sym ea)
+      ∙ ap (λ (x : Header). cond (isListed answer) (updating (recordOf x (settingsIn bytes) (imageIn bytes)) .image) (imageIn bytes)) eh)
+      ∙ image-put bytes h (isListed answer) (updating (recordOf (headerIn bytes) (settingsIn bytes) (imageIn bytes)) .image)
+      ∙ sym (sent updating bytes h header eh lent answer ea)
+
+  -- how many bytes that are is stored
+  pub stored-by : (count : ℕ) → count ≡ updateStored r (length lent) → (old new : ℕ) → new ≡ storedAfter answer count old →
+      new ≡ storedAfter answer (updateStored (recordIn bytes) (length lent)) old
+  unfolding recordIn
+  stored-by count e old new en =
+      en ∙ ap (λ (k : ℕ). storedAfter answer k old) (e ∙ ap (λ (x : Header). updateStored (recordOf x (settingsIn bytes) (imageIn bytes)) (length lent)) eh)
+
+  -- and is below 2 ^ 32
+  pub stored-fits : (count : ℕ) → count ≡ updateStored r (length lent) → count < 2 ^ 32
+  stored-fits count e = go answer refl
+    where
+      go : (x : ListAnswer) → answer ≡ x → count < 2 ^ 32
+      go (Listed n t) q =
+          let f : Fits (Listed n t) = update-within r (length lent) (Listed n t) (sym q ∙ ea) in
+          omega (arith, e ∙ stored-is r (length lent) n t (answer-of r (updating r) (length lent) ∙ sym ea ∙ q), f .1)
+      go (Short needed) q = omega (arith, e ∙ ap (λ (x : ListAnswer). cond (isListed x) (dataBytes (writesOf r)) 0) (sym ea ∙ q))
+      go (Refused refusal) q = omega (arith, e ∙ ap (λ (x : ListAnswer). cond (isListed x) (dataBytes (writesOf r)) 0) (sym ea ∙ q))
+
 -- ---- what a list's answer stores
 
 pub listed : (answer : ListAnswer) (n t : ℕ) → answer ≡ Listed n t → isListed answer ≡ true
@@ -124,22 +152,33 @@ abbrev pub Counted : ListAnswer → ℕ → ℕ → ℕ → ℕ → ℕ → Type
 Counted answer n t number new-n new-t = (number ≡ listNumber answer) × ((new-n ≡ nAfter answer n) × (new-t ≡ tAfter answer t))
 
 pub counted-listed : (answer : ListAnswer) (n t new-n new-t : ℕ) → answer ≡ Listed new-n new-t → Counted answer n t 0 new-n new-t
-unfolding stored
+unfolding valueAfter
 counted-listed answer n t new-n new-t e = rw e (refl, (refl, refl))
 
 pub counted-short : (answer : ListAnswer) (n t number needed : ℕ) → answer ≡ Short needed → number ≡ refusalNumber BufferShort → Counted answer n t number n t
-unfolding stored
+unfolding valueAfter
 counted-short answer n t number needed e h = rw e (h, (refl, refl))
 
 pub counted-refused : (answer : ListAnswer) (n t number : ℕ) (refusal : Refusal) → answer ≡ Refused refusal → number ≡ refusalNumber refusal → Counted answer n t number n t
 counted-refused answer n t number refusal e h = rw e (h, (sym (refused-stores 0 0 refusal n), sym (refused-stores 0 1 refusal t)))
 
+pub stored-listed : (answer : ListAnswer) (count old n t : ℕ) → answer ≡ Listed n t → count ≡ storedAfter answer count old
+unfolding valueAfter
+stored-listed answer count old n t e = rw e refl
+
+pub stored-short : (answer : ListAnswer) (count old needed : ℕ) → answer ≡ Short needed → old ≡ storedAfter answer count old
+unfolding valueAfter
+stored-short answer count old needed e = rw e refl
+
+pub stored-refused : (answer : ListAnswer) (count old : ℕ) (refusal : Refusal) → answer ≡ Refused refusal → old ≡ storedAfter answer count old
+stored-refused answer count old refusal e = rw e (sym (refused-stores 0 2 refusal old))
+
 pub needed-listed : (answer : ListAnswer) (needed n t : ℕ) → answer ≡ Listed n t → needed ≡ neededAfter answer needed
-unfolding stored
+unfolding valueAfter
 needed-listed answer needed n t e = rw e refl
 
 pub needed-short : (answer : ListAnswer) (needed new : ℕ) → answer ≡ Short new → new ≡ neededAfter answer needed
-unfolding stored
+unfolding valueAfter
 needed-short answer needed new e = rw e refl
 
 pub needed-refused : (answer : ListAnswer) (needed : ℕ) (refusal : Refusal) → answer ≡ Refused refusal → needed ≡ neededAfter answer needed

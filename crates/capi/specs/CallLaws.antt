@@ -18,7 +18,7 @@ use Rattle.host.specs.Record.{openOf, settingOf, powerLostOf}
 use Rattle.host.specs.SettingLaws.{Sets, setting-sets, power-refuses}
 use Rattle.update.specs.declared.ListAnswer.{ListAnswer}
 use Rattle.update.specs.declared.ListAnswer.the-variants.{Listed, Short, Refused}
-use Rattle.update.specs.declared.Updated.{Updated}
+use Rattle.update.specs.declared.Sent.{Sent}
 use Rattle.update.specs.Update.{isListed, listNumber, Sending, sendAnswer, sendOf, sendBuffer, clearOf}
 use Rattle.update.specs.SendLaws.{answered, host-kept, buffer-kept, answer-of, clear-leaves}
 use Rattle.faults.specs.declared.Answer as faults
@@ -26,7 +26,7 @@ use Rattle.faults.specs.Faults.{answerNumbers, faultsAnswer, faultsResult}
 use Rattle.faults.specs.FaultLaws.{refuses}
 use Rattle.chip.specs.declared.Chip.{Chip}
 use Rattle.chip.specs.Chip.{atResetOf, feedOf}
-use Rattle.capi.specs.Capi.{recordIn, recordBytes, chipBytes, recordSize, recordSized, chipSized, whenSized, Outcome, settingNumber, settingBytes, settingOutcome, chipNumber, chipAfter, chipOutcome, listAnswer, listBytes, bufferAfter, stored, nAfter, tAfter, ListOutcome, listOutcome, faultsAnswerBy, faultsOutcome}
+use Rattle.capi.specs.Capi.{recordIn, recordBytes, chipBytes, recordSize, recordSized, chipSized, whenSized, Outcome, settingNumber, settingBytes, settingOutcome, chipNumber, chipAfter, chipOutcome, listAnswer, listBytes, bufferAfter, valueAfter, nAfter, tAfter, ListOutcome, listOutcome, faultsAnswerBy, faultsOutcome}
 use Rattle.capi.specs.CapiLaws.{record-round, record-back, chip-back, record-sized, chip-sized, record-length, chip-length, zero-accepted, zero-listed, list-keeps, bytes-keep}
 use Rattle.capi.specs.Calls.{openCall, settingCall, powerLostCall, sendCall, faultsCall, chipAtResetCall, chipPowerLostCall, chipFeedCall}
 
@@ -41,7 +41,7 @@ abbrev pub chipOutcomeOf : Answer → Chip → Outcome
 chipOutcomeOf answer c = record { answer = answerNumber answer; bytes = chipBytes c }
 
 -- a call that writes a list, and the buffer as it leaves it
-abbrev pub listOutcomeOf : Updated → List ℕ → ℕ → ℕ → ListOutcome
+abbrev pub listOutcomeOf : Sent → List ℕ → ℕ → ℕ → ListOutcome
 listOutcomeOf x buffer n t = record {
   answer = listNumber (x .answer);
   bytes = recordBytes (x .host);
@@ -86,7 +86,7 @@ module _ (r : Record) (hs : length (r .settings) ≡ 908) (hi : length (r .image
   pub power-lost-call : powerLostCall (recordBytes r) ≡ outcomeOf (powerLostOf r)
   power-lost-call = setting-call powerLostOf power-kept
 
-  list-stored : (x : Updated) (new buffer : List ℕ) (n t : ℕ) → (isListed (x .answer) ≡ false → x .host ≡ r) →
+  list-stored : (x : Sent) (new buffer : List ℕ) (n t : ℕ) → (isListed (x .answer) ≡ false → x .host ≡ r) →
       listOutcome (recordBytes r) x new buffer n t ≡ listOutcomeOf x new n t
   unfolding listAnswer listBytes bufferAfter
   list-stored x new buffer n t kept =
@@ -180,7 +180,7 @@ module _ (f : Record → Sending) (bytes buffer : List ℕ) (n t : ℕ) where
   -- The list of an answer of 0 stands in the buffer that was lent.
   pub send-inside : isListed (f r .short) ≡ false → sendCall f bytes buffer n t .answer ≡ 0 →
       4 + 2 * sendCall f bytes buffer n t .n + sendCall f bytes buffer n t .t ≤ length buffer
-  unfolding listAnswer sendOf stored
+  unfolding listAnswer sendOf valueAfter
   send-inside s z = go (recordSized bytes) z
     where
       answer : Bool → ListAnswer

@@ -10,11 +10,12 @@ use Rattle.burst.specs.Burst.{placeOf}
 use Rattle.calls.specs.declared.Setting.{Setting}
 use Rattle.host.specs.Record.{openOf, settingOf, powerLostOf}
 use Rattle.host.specs.declared.Record.{Record}
-use Rattle.update.specs.Update.{Sending, sendOf, sendBuffer, updating, updateOf, resetting, clearing}
+use Rattle.update.specs.declared.ListAnswer.{ListAnswer}
+use Rattle.update.specs.Update.{Sending, sendOf, sendBuffer, updating, updateStored, resetting, clearing}
 use Rattle.rounds.specs.Round.{presentAt, recordAt, roundBuffer, roundOf, presentBy}
 use Rattle.faults.specs.Faults.{faultsAnswer, faultsResult}
 use Rattle.chip.specs.Chip.{atResetOf, feedOf}
-use Rattle.capi.specs.Capi.{recordIn, chipIn, Outcome, settingOutcome, sizedNumbers, chipOutcome, listAnswer, neededAfter, ListOutcome, listOutcome, bufferAfter, recordsIn, roundOutcome, PlaceOutcome, placeOutcome, faultsAnswerBy, FaultsOutcome, faultsOutcome}
+use Rattle.capi.specs.Capi.{recordIn, chipIn, Outcome, settingOutcome, sizedNumbers, chipOutcome, listAnswer, storedAfter, neededAfter, ListOutcome, listOutcome, bufferAfter, recordsIn, roundOutcome, PlaceOutcome, placeOutcome, faultsAnswerBy, FaultsOutcome, faultsOutcome}
 
 -- ---- The record and its settings
 
@@ -45,9 +46,17 @@ sendCall f bytes buffer n t =
 abbrev pub updateCall : List ℕ → List ℕ → ℕ → ℕ → ListOutcome
 updateCall = sendCall updating
 
--- and the length needed, which only this call stores
+-- its answer, by the size of the bytes
+abbrev pub updateAnswered : List ℕ → List ℕ → ListAnswer
+updateAnswered bytes buffer = listAnswer bytes (sendOf (recordIn bytes) (updating (recordIn bytes)) (length buffer))
+
+-- and what only this call stores: how many bytes of the chip image it stored,
+abbrev pub updateStores : List ℕ → List ℕ → ℕ → ℕ
+updateStores bytes buffer stored = storedAfter (updateAnswered bytes buffer) (updateStored (recordIn bytes) (length buffer)) stored
+
+-- or the length needed
 abbrev pub updateNeeded : List ℕ → List ℕ → ℕ → ℕ
-updateNeeded bytes buffer needed = neededAfter (listAnswer bytes (updateOf (recordIn bytes) (length buffer))) needed
+updateNeeded bytes buffer needed = neededAfter (updateAnswered bytes buffer) needed
 
 -- lp586x_reset
 abbrev pub resetCall : List ℕ → List ℕ → ℕ → ℕ → ListOutcome

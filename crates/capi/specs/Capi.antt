@@ -19,8 +19,8 @@ use Rattle.host.specs.declared.Header.{Header}
 use Rattle.host.specs.Record.{headerOf, recordOf}
 use Rattle.update.specs.declared.ListAnswer.{ListAnswer}
 use Rattle.update.specs.declared.ListAnswer.the-variants.{Listed, Short, Refused}
-use Rattle.update.specs.declared.Updated.{Updated}
-use Rattle.update.specs.Update.{listNumbers, listNumber, isListed}
+use Rattle.update.specs.declared.Sent.{Sent}
+use Rattle.update.specs.Update.{listNumbers, updateNumbers, listNumber, isListed}
 use Rattle.rounds.specs.declared.Headers.{Headers}
 use Rattle.rounds.specs.declared.Present.{Present}
 use Rattle.rounds.specs.declared.Records.{Records}
@@ -176,33 +176,37 @@ chipOutcome bytes answer c = record { answer = chipNumber bytes answer; bytes = 
 -- ---- Calls that write a list
 
 -- "14 unsound record or chip, or its size is wrong", as the answer of a list
-unfoldable pub listAnswer : List ℕ → Updated → ListAnswer
+unfoldable pub listAnswer : List ℕ → Sent → ListAnswer
 listAnswer bytes x = cond (recordSized bytes) (x .answer) (Refused Unsound)
 
 -- "A refused call changes no byte that was lent to it": the record's bytes after a list, or the old ones
-unfoldable pub listBytes : List ℕ → Updated → List ℕ
+unfoldable pub listBytes : List ℕ → Sent → List ℕ
 listBytes bytes x = cond (isListed (listAnswer bytes x)) (recordBytes (x .host)) bytes
 
 -- the buffer as the call on the record leaves it, or as it was where the size is wrong
 unfoldable pub bufferAfter : List ℕ → List ℕ → List ℕ → List ℕ
 bufferAfter bytes new old = cond (recordSized bytes) new old
 
--- An answer of this number stores the value at this place of its number and values; any other leaves what stood there, as does a
--- Reset's 10, which carries only its number.
-unfoldable pub stored : ℕ → ℕ → ListAnswer → ℕ → ℕ
-stored number place answer old = cond (eqb (listNumber answer) number) (getD (listNumbers answer) place old) old
+-- Of an answer with these numbers: one of this number stores the value at this place; any other leaves what stood there, as does a Reset's
+-- 10, which carries only its number.
+unfoldable pub valueAfter : ℕ → ℕ → List ℕ → ℕ → ℕ
+valueAfter number place numbers old = cond (eqb (getD numbers 0 0) number) (getD numbers place old) old
 
 -- "0 stores n and t": n
 abbrev pub nAfter : ListAnswer → ℕ → ℕ
-nAfter answer old = stored 0 1 answer old
+nAfter answer old = valueAfter 0 1 (listNumbers answer) old
 
 -- "0 stores n and t": t
 abbrev pub tAfter : ListAnswer → ℕ → ℕ
-tAfter answer old = stored 0 2 answer old
+tAfter answer old = valueAfter 0 2 (listNumbers answer) old
+
+-- "0 of lp586x_update also stores how many bytes of the chip image it stored", count
+abbrev pub storedAfter : ListAnswer → ℕ → ℕ → ℕ
+storedAfter answer count old = valueAfter 0 3 (updateNumbers answer count) old
 
 -- "10 stores the length needed."
 abbrev pub neededAfter : ListAnswer → ℕ → ℕ
-neededAfter answer old = stored (refusalNumber BufferShort) 1 answer old
+neededAfter answer old = valueAfter (refusalNumber BufferShort) 1 (listNumbers answer) old
 
 -- what such a call answers, and what it leaves: the bytes of the record, the buffer, n and t
 pub record ListOutcome : Type 0 where
@@ -213,7 +217,7 @@ pub record ListOutcome : Type 0 where
   pub t : ℕ
 
 -- by what the call on the record gives back, x, and the buffer as that call leaves it, new
-abbrev pub listOutcome : List ℕ → Updated → List ℕ → List ℕ → ℕ → ℕ → ListOutcome
+abbrev pub listOutcome : List ℕ → Sent → List ℕ → List ℕ → ℕ → ℕ → ListOutcome
 listOutcome bytes x new buffer n t = record {
   answer = listNumber (listAnswer bytes x);
   bytes = listBytes bytes x;

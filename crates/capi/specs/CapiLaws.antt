@@ -19,11 +19,11 @@ use Rattle.host.specs.declared.Changed.{Changed}
 use Rattle.host.specs.Record.{recordOf}
 use Rattle.update.specs.declared.ListAnswer.{ListAnswer}
 use Rattle.update.specs.declared.ListAnswer.the-variants.{Listed, Short, Refused}
-use Rattle.update.specs.declared.Updated.{Updated}
+use Rattle.update.specs.declared.Sent.{Sent}
 use Rattle.update.specs.Update.{isListed, listNumber}
 use Rattle.chip.specs.declared.Chip.{Chip}
 use Rattle.chip.specs.Chip.{chipOf}
-use Rattle.capi.specs.Capi.{headerIn, settingsAt, settingsIn, imageAt, imageIn, recordIn, recordBytes, registersAt, chipIn, chipBytes, recordSize, recordSized, placeAt, recordsIn, recordsBytes, roundSized, chipSize, chipSized, whenSized, settingNumber, settingBytes, chipNumber, chipAfter, listAnswer, listBytes, stored, nAfter, tAfter, neededAfter}
+use Rattle.capi.specs.Capi.{headerIn, settingsAt, settingsIn, imageAt, imageIn, recordIn, recordBytes, registersAt, chipIn, chipBytes, recordSize, recordSized, placeAt, recordsIn, recordsBytes, roundSized, chipSize, chipSized, whenSized, settingNumber, settingBytes, chipNumber, chipAfter, listAnswer, listBytes, valueAfter, nAfter, tAfter, storedAfter, neededAfter}
 
 -- ---- the bytes read back
 
@@ -230,8 +230,8 @@ chip-keeps bytes answer c n = answer-keeps (whenSized (chipSized bytes) answer) 
 -- ---- what a list's answer stores
 
 -- a refusal carries only its number, so that there is nothing to store
-pub refused-stores : (number place : ℕ) (x : Refusal) (old : ℕ) → stored number (suc place) (Refused x) old ≡ old
-unfolding stored
+pub refused-stores : (number place : ℕ) (x : Refusal) (old : ℕ) → valueAfter number (suc place) (refusalNumber x ∷ []) old ≡ old
+unfolding valueAfter
 refused-stores number place x old = same (eqb (refusalNumber x) number)
   where
     same : (b : Bool) → cond b old old ≡ old
@@ -240,7 +240,7 @@ refused-stores number place x old = same (eqb (refusalNumber x) number)
 
 -- an answer of 0 is a list with the n and t that are stored
 pub zero-stores : (answer : ListAnswer) (n t : ℕ) → listNumber answer ≡ 0 → answer ≡ Listed (nAfter answer n) (tAfter answer t)
-unfolding stored
+unfolding valueAfter
 zero-stores (Listed k u) n t e = refl
 zero-stores (Short needed) n t e = absurd (omega arith)
 zero-stores (Refused x) n t e = absurd (refusal-some x e)
@@ -252,19 +252,26 @@ pub record Kept (answer : ListAnswer) : Type 0 where
   pub unlisted : isListed answer ≡ false
 
 pub list-keeps : (answer : ListAnswer) → (listNumber answer ≡ 0 → ⊥) → Kept answer
-unfolding stored
+unfolding valueAfter
 list-keeps (Listed n t) z = absurd (z refl)
 list-keeps (Short needed) z = record { n-stays = λ n. refl; t-stays = λ t. refl; unlisted = refl }
 list-keeps (Refused x) z = record { n-stays = λ n. refused-stores 0 0 x n; t-stays = λ t. refused-stores 0 1 x t; unlisted = refl }
 
+-- and what an update stores of it
+pub stored-keeps : (answer : ListAnswer) (count old : ℕ) → (listNumber answer ≡ 0 → ⊥) → storedAfter answer count old ≡ old
+unfolding valueAfter
+stored-keeps (Listed n t) count old z = absurd (z refl)
+stored-keeps (Short needed) count old z = refl
+stored-keeps (Refused x) count old z = refused-stores 0 2 x old
+
 -- "10 of lp586x_update alone stores the length needed"
 pub needed-keeps : (answer : ListAnswer) (needed : ℕ) → (listNumber answer ≡ refusalNumber BufferShort → ⊥) → neededAfter answer needed ≡ needed
-unfolding stored
+unfolding valueAfter
 needed-keeps (Listed n t) needed z = refl
 needed-keeps (Short size) needed z = absurd (z refl)
 needed-keeps (Refused x) needed z = refused-stores (refusalNumber BufferShort) 0 x needed
 
 -- the record stays
-pub bytes-keep : (bytes : List ℕ) (x : Updated) → (listNumber (listAnswer bytes x) ≡ 0 → ⊥) → listBytes bytes x ≡ bytes
+pub bytes-keep : (bytes : List ℕ) (x : Sent) → (listNumber (listAnswer bytes x) ≡ 0 → ⊥) → listBytes bytes x ≡ bytes
 unfolding listBytes
 bytes-keep bytes x z = rw (list-keeps (listAnswer bytes x) z .unlisted) refl

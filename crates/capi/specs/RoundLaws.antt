@@ -21,7 +21,7 @@ use Rattle.rounds.specs.Round.{leastLimit, mostLimit, presentAt, recordAt, roun
 use Rattle.rounds.specs.DealLaws.{round-takes}
 use Rattle.rounds.specs.AcceptLaws.{roundMost, round-accepts}
 use Rattle.rounds.specs.AbsentLaws.{refused-kept, refused-buffer}
-use Rattle.capi.specs.Capi.{recordIn, recordBytes, recordSize, placeAt, recordsIn, recordsBytes, roundSized, roundAnswerBy, stored, nAfter, tAfter, ListOutcome, roundOutcome}
+use Rattle.capi.specs.Capi.{recordIn, recordBytes, recordSize, placeAt, recordsIn, recordsBytes, roundSized, roundAnswerBy, valueAfter, nAfter, tAfter, ListOutcome, roundOutcome}
 use Rattle.capi.specs.CapiLaws.{Whole, record-begins, record-back, record-length, round-sized, zero-listed, list-keeps}
 use Rattle.capi.specs.Calls.{roundCall}
 use Rattle.capi.specs.CallLaws.{either}
@@ -138,7 +138,7 @@ module _ (bytes : List ℕ) (present limit : ℕ) (buffer : List ℕ) (n t : ℕ
   -- The list of an answer of 0 stands in the buffer that was lent.
   pub round-inside : roundCall bytes present limit buffer n t .answer ≡ 0 →
       4 + 2 * roundCall bytes present limit buffer n t .n + roundCall bytes present limit buffer n t .t ≤ length buffer
-  unfolding roundAnswerBy roundOf stored
+  unfolding roundAnswerBy roundOf valueAfter
   round-inside z = go (roundSized bytes present) z
     where
       listed : isListed (answer true) ≡ true → 4 + 2 * nAfter (answer true) n + tAfter (answer true) t ≤ length buffer

@@ -9,15 +9,11 @@ mod rounding;
 
 ghost use mathlib.Core.Path.{_≡_};
 ghost use mathlib.Core.List.{[]};
-ghost use lib.ListN.{length};
 ghost use Rattle.map.specs.declared.refusals.Refusal.the-variants.{Unsound};
 ghost use Rattle.map.specs.Refusals.{refusalNumber};
-ghost use Rattle.host.specs.Record.{recordOf};
-ghost use Rattle.update.specs.Update.{updateAnswer, updateOf, updateBuffer};
-ghost use Rattle.capi.specs.Calls.{openCall, settingCall, settingNumbersCall, powerLostCall, updateCall, updateNeeded, resetCall, clearCall, roundCall, transactionCall, faultsCall, chipAtResetCall, chipPowerLostCall, chipFeedCall};
+ghost use Rattle.capi.specs.Calls.{openCall, settingCall, settingNumbersCall, powerLostCall, updateCall, updateStores, updateNeeded, resetCall, clearCall, roundCall, transactionCall, faultsCall, chipAtResetCall, chipPowerLostCall, chipFeedCall};
 use burst::Place;
 use calls::Setting;
-use host::Header;
 use map::Answer;
 use map::Numbers;
 use map::Refusal;
@@ -27,7 +23,6 @@ use records::RECORD_SIZE;
 use records::REGISTERS;
 use records::SETTINGS;
 use rounding::RECORDS_SIZE;
-use update::ListAnswer;
 
 // The answer to bytes of another size: that of an unsound record.
 fn wrong_size() -> u32
@@ -155,31 +150,13 @@ pub extern "C" fn lp586x_power_lost(bytes: &mut [u8]) -> u32
 
 // ---- Lists of bus writes
 
-// An update on the parts of a record, with a copy of its image.
-fn update_image<'a>(
-    header: Header,
-    settings: &'a [u8],
-    old: &'a [u8],
-    image: &mut [u8; 908],
-    buffer: &mut [u8],
-) -> ListAnswer
-    ensures { λ r. ⌜ r ≡ updateAnswer (recordOf header (now (settings .entry)) (now (old .entry))) (length (now (buffer .entry))) ⌝ }
-    ensures { λ _. ⌜
-        (now (image .entry) ≡ now (old .entry) →
-        now (image .exit) ≡ updateOf (recordOf header (now (settings .entry)) (now (old .entry))) (length (now (buffer .entry))) .host .image)
-        ⌝ }
-    ensures { λ _. ⌜ length (now (image .exit)) ≡ length (now (image .entry)) ⌝ }
-    ensures { λ _. ⌜ now (buffer .exit) ≡ updateBuffer (recordOf header (now (settings .entry)) (now (old .entry))) (now (buffer .entry)) ⌝ }
-{
-    update::update_parts(header, settings, old, image, buffer)
-}
-
 #[no_mangle]
 pub extern "C" fn lp586x_update(
     bytes: &mut [u8],
     buffer: &mut [u8],
     n: &mut u32,
     t: &mut u32,
+    stored: &mut u32,
     needed: &mut u32,
 ) -> u32
     ensures { λ r. ⌜ r ≡ updateCall (now (bytes .entry)) (now (buffer .entry)) (now (n .entry)) (now (t .entry)) .answer ⌝ }
@@ -187,21 +164,18 @@ pub extern "C" fn lp586x_update(
     ensures { λ _. ⌜ now (buffer .exit) ≡ updateCall (now (bytes .entry)) (now (buffer .entry)) (now (n .entry)) (now (t .entry)) .buffer ⌝ }
     ensures { λ _. ⌜ now (n .exit) ≡ updateCall (now (bytes .entry)) (now (buffer .entry)) (now (n .entry)) (now (t .entry)) .n ⌝ }
     ensures { λ _. ⌜ now (t .exit) ≡ updateCall (now (bytes .entry)) (now (buffer .entry)) (now (n .entry)) (now (t .entry)) .t ⌝ }
+    ensures { λ _. ⌜ now (stored .exit) ≡ updateStores (now (bytes .entry)) (now (buffer .entry)) (now (stored .entry)) ⌝ }
     ensures { λ _. ⌜ now (needed .exit) ≡ updateNeeded (now (bytes .entry)) (now (buffer .entry)) (now (needed .entry)) ⌝ }
 {
     if bytes.len() != RECORD_SIZE {
         return wrong_size();
     }
     let header = records::header(bytes);
-    let mut image = records::image(bytes, IMAGE);
-    let answer = update_image(
-        header,
-        &bytes[SETTINGS..IMAGE],
-        &bytes[IMAGE..RECORD_SIZE],
-        &mut image,
-        buffer,
-    );
-    lists::keep(answer, bytes, IMAGE, &image);
+    let settings = &bytes[SETTINGS..IMAGE];
+    let image = &bytes[IMAGE..RECORD_SIZE];
+    let answer = update::update_parts(header, settings, image, buffer);
+    let sent = update::store_sent(answer, header, &mut bytes[IMAGE..RECORD_SIZE], buffer);
+    lists::put_stored(answer, sent, stored);
     lists::put_needed(answer, needed);
     lists::count(answer, n, t)
 }

@@ -1,18 +1,18 @@
-// What a call stores that writes a list: the chip image, n and t, and the length needed.
+// What a call stores that writes a list: the chip image, n and t, how many bytes of the image, and the length needed.
 ghost use mathlib.Core.Path.{_≡_};
 ghost use mathlib.Core.Bool.{cond, _&&_};
-ghost use Prim.Native.Nat.{_+_, _≤_};
+ghost use Prim.Native.Nat.{_+_, _^_, _<_, _≤_};
 ghost use lib.Dec.{eqb};
 ghost use lib.ListN.{length};
 ghost use Rattle.map.specs.Images.{resetImage};
 ghost use Rattle.update.specs.Update.{isListed, listNumber};
-ghost use Rattle.capi.specs.Capi.{putImage, nAfter, tAfter, neededAfter, Fits};
+ghost use Rattle.capi.specs.Capi.{putImage, nAfter, tAfter, storedAfter, neededAfter, Fits};
 use crate::records;
 use host::Header;
 use map::Refusal;
 use update::ListAnswer;
 
-// The image that an update or a round leaves, at `at`.
+// The image that a round leaves, at `at`.
 pub(crate) fn keep(answer: ListAnswer, bytes: &mut [u8], at: usize, image: &[u8; 908])
     requires { ⌜ (at + 908 ≤ length (now bytes)) × (length (now image) ≡ 908) ⌝ }
     ensures { λ _. ⌜ now (bytes .exit) ≡ cond (isListed answer) (putImage (now (bytes .entry)) at (now (image .entry))) (now (bytes .entry)) ⌝ }
@@ -53,6 +53,20 @@ pub(crate) fn count(answer: ListAnswer, n: &mut u32, t: &mut u32) -> u32
         }
         ListAnswer::Short { needed: _ } => map::refusal_number(Refusal::BufferShort) as u32,
         ListAnswer::Refused(refusal) => map::refusal_number(refusal) as u32,
+    }
+}
+
+// How many bytes of the chip image an update stored.
+pub(crate) fn put_stored(answer: ListAnswer, count: usize, stored: &mut u32)
+    requires { ⌜ count < 2 ^ 32 ⌝ }
+    ensures { λ _. ⌜ now (stored .exit) ≡ storedAfter answer count (now (stored .entry)) ⌝ }
+{
+    match answer {
+        ListAnswer::Listed { n: _, t: _ } => {
+            *stored = count as u32;
+        }
+        ListAnswer::Short { needed: _ } => {}
+        ListAnswer::Refused(_) => {}
     }
 }
 

@@ -21,7 +21,7 @@ use Rattle.history.specs.Ledger.{Told, toldOf, entries}
 use Rattle.history.specs.Step.{callNumbers, listIn, fedBy, sendStep, stepOf}
 use Rattle.history.specs.History.{run, told}
 use Rattle.history.specs.WorldLaws.{Holds, event-holds}
-use Rattle.capi.specs.Capi.{recordBytes, chipBytes, stored, nAfter, tAfter, Outcome, ListOutcome}
+use Rattle.capi.specs.Capi.{recordBytes, chipBytes, valueAfter, nAfter, tAfter, Outcome, ListOutcome}
 use Rattle.capi.specs.Calls.{sendCall, updateNeeded, chipFeedCall}
 use Rattle.capi.specs.CapiLaws.{zero-listed}
 use Rattle.capi.specs.CallLaws.{listOutcomeOf, setting-of-call, power-lost-call, send-call, feed-call, chip-power-lost-call}
@@ -53,7 +53,7 @@ module _ (w : World) (whole : Whole w) (lent : List ℕ) (n t needed : ℕ) wher
   -- the list goes to the chip where the call answered 0
   list-fed : (answer : ListAnswer) (buffer : List ℕ) →
       chipFed (listNumber answer) (nAfter answer n) (tAfter answer t) buffer chip ≡ chipBytes (fedBy answer buffer (w .chip))
-  unfolding stored chipFed
+  unfolding valueAfter chipFed
   list-fed (Listed k u) buffer = fed-bytes (listIn k u buffer)
   list-fed (Short size) buffer = refl
   list-fed (Refused x) buffer = rw (ne-eqb (listNumber (Refused x)) 0 (λ e. false≢true (zero-listed (Refused x) e))) refl

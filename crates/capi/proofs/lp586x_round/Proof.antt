@@ -2,7 +2,7 @@
 -- Assumes nothing.
 use mathlib.Core.Path.{refl}
 use borrow.Author.Needs.{needs}
-use Rattle.capi.specs.Capi.{roundAnswerBy, stored}
+use Rattle.capi.specs.Capi.{roundAnswerBy, valueAfter}
 use Rattle.capi.specs.CapiLaws.{wrong-records, wrong-marks}
 use Rattle.capi.proofs.FourRecords.{round-within, round-called}
 use Rattle.capi.proofs.lp586x_round.Statement.{statement}
@@ -12,7 +12,7 @@ wrong-size-requires : tie.Need-wrong-size-requires
 wrong-size-requires c κs = search needs
 
 returns : tie.Need-returns
-unfolding roundAnswerBy stored
+unfolding roundAnswerBy valueAfter
 returns c =
     let a = c .before .before .before .before .args in
     rw (wrong-records (a .bytes .now) (a .present) (c .before .if1 .taken)) (c .wrong-size .ensures, (refl, (refl, (refl, refl))))
@@ -21,7 +21,7 @@ wrong-size-requires-2 : tie.Need-wrong-size-requires-2
 wrong-size-requires-2 c κs = search needs
 
 returns-2 : tie.Need-returns-2
-unfolding roundAnswerBy stored
+unfolding roundAnswerBy valueAfter
 returns-2 c =
     let a = c .before .before .before .before .before .args in
     rw (wrong-marks (a .bytes .now) (a .present) (c .before .if2 .taken)) (c .wrong-size2 .ensures, (refl, (refl, (refl, refl))))

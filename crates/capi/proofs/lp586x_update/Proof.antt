@@ -1,13 +1,10 @@
 -- `capi::lp586x_update` meets its contract.
 -- Assumes nothing.
-use native.Mathlib.Omega.{arith}
-use lib.ListN.{length}
-use Rattle.capi.proofs.InPlace.{part-length}
-use mathlib.Core.Path.{refl, ap, _∙_}
-use Rattle.capi.specs.CapiLaws.{record-unsized}
-use Rattle.capi.specs.Capi.{imageAt, listAnswer, listBytes, bufferAfter, stored}
+use mathlib.Core.Path.{refl}
 use Rattle.update.specs.Update.{updating}
-use Rattle.capi.proofs.Listed.{update-within, answer-is, buffer-is, copied-back}
+use Rattle.capi.specs.Capi.{listAnswer, listBytes, bufferAfter, valueAfter}
+use Rattle.capi.specs.CapiLaws.{record-unsized}
+use Rattle.capi.proofs.Listed.{update-within, answer-is, buffer-is, sent-so, update-back, stored-fits, stored-by}
 use borrow.Author.Needs.{needs}
 use Rattle.capi.proofs.lp586x_update.Statement.{statement}
 use Rattle.capi.proofs.lp586x_update.Tie as tie
@@ -16,48 +13,62 @@ wrong-size-requires : tie.Need-wrong-size-requires
 wrong-size-requires c κs = search needs
 
 returns : tie.Need-returns
-unfolding listAnswer listBytes bufferAfter stored
-returns c = rw (record-unsized (c .before .before .before .before .args .bytes .now) (c .before .if1 .taken)) (c .wrong-size .ensures, (refl, (refl, (refl, (refl, refl)))))
+unfolding listAnswer listBytes bufferAfter valueAfter
+returns c = rw (record-unsized (c .before .before .before .before .args .bytes .now) (c .before .if1 .taken)) (c .wrong-size .ensures, (refl, (refl, (refl, (refl, (refl, refl))))))
 
 header-requires : tie.Need-header-requires
 header-requires c κs = search needs
 
-image-requires : tie.Need-image-requires
-image-requires c κs = search needs
+sub-settings : tie.Need-sub-settings
+sub-settings c = search needs
 
-sub-update-image : tie.Need-sub-update-image
-sub-update-image c = search needs
+part-settings-start : tie.Need-part-settings-start
+part-settings-start c = search needs
 
-part-update-image-start : tie.Need-part-update-image-start
-part-update-image-start c = search needs
+part-settings-end : tie.Need-part-settings-end
+part-settings-end c = search needs
 
-part-update-image-end : tie.Need-part-update-image-end
-part-update-image-end c = search needs
+sub-image : tie.Need-sub-image
+sub-image c = search needs
 
-sub-update-image-2 : tie.Need-sub-update-image-2
-sub-update-image-2 c = search needs
+part-image-start : tie.Need-part-image-start
+part-image-start c = search needs
 
-part-update-image-start-2 : tie.Need-part-update-image-start-2
-part-update-image-start-2 c = search needs
+part-image-end : tie.Need-part-image-end
+part-image-end c = search needs
 
-part-update-image-end-2 : tie.Need-part-update-image-end-2
-part-update-image-end-2 c = search needs
+update-parts-requires : tie.Need-update-parts-requires
+update-parts-requires c κs = search needs
 
-update-image-requires : tie.Need-update-image-requires
-update-image-requires c κs = search needs
+sub-store-sent : tie.Need-sub-store-sent
+sub-store-sent c = search needs
 
-keep-requires : tie.Need-keep-requires
-keep-requires c κs =
-    let sent = c .before .before .before .before in
-    let read = sent .before .before .before .before .before .before in
-    let begun = read .before .before .before .before .before .before .before in
-    (omega arith, sent .update-image .ensures .1 .1 .0 ∙ ap length (read .image .ensures) ∙ part-length imageAt 908 (begun .args .bytes .now) (omega arith))
+part-store-sent-start : tie.Need-part-store-sent-start
+part-store-sent-start c = search needs
+
+part-store-sent-end : tie.Need-part-store-sent-end
+part-store-sent-end c = search needs
+
+store-sent-requires : tie.Need-store-sent-requires
+store-sent-requires c κs = search needs
+
+put-stored-requires : tie.Need-put-stored-requires
+put-stored-requires c κs =
+    let sent = c .before .before .before .before .before .before .before .before in
+    let read = sent .before .before .before .before .before in
+    let begun = read .before .before .before .before .before in
+    let bytes = begun .args .bytes .now in
+    let buffer = begun .args .buffer .now in
+    let sized = read .before .before .if1 .left in
+    let header = read .header .ensures in
+    let made = sent .update-parts .ensures in
+    stored-fits bytes sized _ header buffer _ _ (made .0) (made .1) _ (c .before .before .before .store-sent .ensures .0 _ _ (sent-so bytes sized _ header buffer _ _ (made .0) (made .1)))
 
 put-needed-requires : tie.Need-put-needed-requires
-put-needed-requires c κs = update-within _ _ _ (c .before .before .before .before .before .before .before .before .update-image .ensures .0)
+put-needed-requires c κs = update-within _ _ _ (c .before .before .before .before .before .before .before .before .before .before .update-parts .ensures .0)
 
 count-requires : tie.Need-count-requires
-count-requires c κs = update-within _ _ _ (c .before .before .before .before .before .before .before .before .before .before .before .update-image .ensures .0)
+count-requires c κs = update-within _ _ _ (c .before .before .before .before .before .before .before .before .before .before .before .before .before .update-parts .ensures .0)
 
 same-length : tie.Need-same-length
 same-length c = search needs
@@ -67,24 +78,28 @@ same-length-2 c = search needs
 
 returns-2 : tie.Need-returns-2
 returns-2 c =
-    let kept = c .before .before .before .before .before .before .before in
-    let sent = kept .before .before .before .before .before in
-    let read = sent .before .before .before .before .before .before in
-    let begun = read .before .before .before .before .before .before .before in
+    let sent = c .before .before .before .before .before .before .before .before .before .before .before .before .before .before in
+    let read = sent .before .before .before .before .before in
+    let begun = read .before .before .before .before .before in
     let bytes = begun .args .bytes .now in
     let buffer = begun .args .buffer .now in
-    let sized = read .before .before .before .before .if1 .left in
-    let header = read .before .before .header .ensures in
-    let made = sent .update-image .ensures in
+    let sized = read .before .before .if1 .left in
+    let header = read .header .ensures in
+    let made = sent .update-parts .ensures in
+    let told = sent-so bytes sized _ header buffer _ _ (made .0) (made .1) in
+    let taken = c .before .before .before .before .before .before .before .before .before .store-sent .ensures in
     rw (answer-is updating bytes sized _ header buffer _ (made .0)) (
       c .count .ensures .0,
       (
-        copied-back updating bytes sized _ header buffer _ (made .0) _ _ (made .1 .0 (read .image .ensures)) (kept .keep .ensures),
+        update-back bytes sized _ header buffer _ _ (made .0) (made .1) _ (taken .1 _ _ told),
         (
-          buffer-is updating bytes sized _ header buffer _ (made .0) _ (made .1 .1 .1),
+          buffer-is updating bytes sized _ header buffer _ (made .0) _ (made .1),
           (
             c .count .ensures .1 .0,
-            (c .count .ensures .1 .1, c .before .before .before .put-needed .ensures),
+            (
+              c .count .ensures .1 .1,
+              (stored-by bytes sized _ header buffer _ _ (made .0) (made .1) _ (taken .0 _ _ told) _ _ (c .before .before .before .before .before .put-stored .ensures), c .before .before .before .put-needed .ensures),
+            ),
           ),
         ),
       ),
@@ -97,15 +112,18 @@ lp586x-update-spec =
     wrong-size-requires
     returns
     header-requires
-    image-requires
-    sub-update-image
-    part-update-image-start
-    part-update-image-end
-    sub-update-image-2
-    part-update-image-start-2
-    part-update-image-end-2
-    update-image-requires
-    keep-requires
+    sub-settings
+    part-settings-start
+    part-settings-end
+    sub-image
+    part-image-start
+    part-image-end
+    update-parts-requires
+    sub-store-sent
+    part-store-sent-start
+    part-store-sent-end
+    store-sent-requires
+    put-stored-requires
     put-needed-requires
     count-requires
     same-length
