@@ -4,7 +4,7 @@
 use mathlib.Core.Path.{_≡_, refl, sym, ap, _∙_}
 use mathlib.Core.Bool.{Bool, true, false, cond, false≢true}
 use mathlib.Core.List.{List}
-use Prim.Native.Nat.{ℕ, _+_, _*_, _≤_}
+use Prim.Native.Nat.{ℕ, _+_, _-_, _*_, _≤_}
 use native.Mathlib.Omega.{arith}
 use lib.ListN.{length, getD}
 use Rattle.map.specs.declared.refusals.Answer.{Answer}
@@ -19,16 +19,17 @@ use Rattle.host.specs.SettingLaws.{Sets, setting-sets, power-refuses}
 use Rattle.update.specs.declared.ListAnswer.{ListAnswer}
 use Rattle.update.specs.declared.ListAnswer.the-variants.{Listed, Short, Refused}
 use Rattle.update.specs.declared.Sent.{Sent}
-use Rattle.update.specs.Update.{isListed, listNumber, Sending, sendAnswer, sendOf, sendBuffer, clearOf}
+use Rattle.update.specs.Update.{isListed, listNumber, Sending, sendAnswer, sendOf, sendBuffer, updating, updateStored, clearOf}
+use Rattle.update.specs.StoredLaws.{stored-is}
 use Rattle.update.specs.SendLaws.{answered, host-kept, buffer-kept, answer-of, clear-leaves}
 use Rattle.faults.specs.declared.Answer as faults
 use Rattle.faults.specs.Faults.{answerNumbers, faultsAnswer, faultsResult}
 use Rattle.faults.specs.FaultLaws.{refuses}
 use Rattle.chip.specs.declared.Chip.{Chip}
 use Rattle.chip.specs.Chip.{atResetOf, feedOf}
-use Rattle.capi.specs.Capi.{recordIn, recordBytes, chipBytes, recordSize, recordSized, chipSized, whenSized, Outcome, settingNumber, settingBytes, settingOutcome, chipNumber, chipAfter, chipOutcome, listAnswer, listBytes, bufferAfter, valueAfter, nAfter, tAfter, ListOutcome, listOutcome, faultsAnswerBy, faultsOutcome}
-use Rattle.capi.specs.CapiLaws.{record-round, record-back, chip-back, record-sized, chip-sized, record-length, chip-length, zero-accepted, zero-listed, list-keeps, bytes-keep}
-use Rattle.capi.specs.Calls.{openCall, settingCall, powerLostCall, sendCall, faultsCall, chipAtResetCall, chipPowerLostCall, chipFeedCall}
+use Rattle.capi.specs.Capi.{recordIn, recordBytes, chipBytes, recordSize, recordSized, chipSized, whenSized, Outcome, settingNumber, settingBytes, settingOutcome, chipNumber, chipAfter, chipOutcome, listAnswer, listBytes, bufferAfter, valueAfter, nAfter, tAfter, storedAfter, ListOutcome, listOutcome, faultsAnswerBy, faultsOutcome}
+use Rattle.capi.specs.CapiLaws.{record-round, record-back, chip-back, record-sized, chip-sized, record-length, chip-length, zero-accepted, zero-listed, list-keeps, stored-keeps, bytes-keep}
+use Rattle.capi.specs.Calls.{openCall, settingCall, powerLostCall, sendCall, updateCall, updateAnswered, updateStores, faultsCall, chipAtResetCall, chipPowerLostCall, chipFeedCall}
 
 -- ---- Calls on values, as outcomes
 
@@ -238,3 +239,30 @@ module _ (bytes given result : List ℕ) (opens shorts : ℕ) where
       go true e z =
           let x = refuses (recordIn bytes) given result z in
           record { result-stays = rw e (x .result-stays); opens-stay = rw e (x .no-opens opens); shorts-stay = rw e (x .no-shorts shorts) }
+
+-- ---- What an update stores: document 02, Q-4
+
+module _ (bytes buffer : List ℕ) (n t stored : ℕ) where
+  -- with 0 it is "t less 2n"
+  pub update-stores : updateCall bytes buffer n t .answer ≡ 0 →
+      updateStores bytes buffer stored ≡ updateCall bytes buffer n t .t - 2 * updateCall bytes buffer n t .n
+  unfolding listAnswer sendOf valueAfter
+  update-stores z = go (recordSized bytes) z
+    where
+      listed : (x : ListAnswer) → sendAnswer (recordIn bytes) (updating (recordIn bytes)) (length buffer) ≡ x → listNumber x ≡ 0 →
+          storedAfter x (updateStored (recordIn bytes) (length buffer)) stored ≡ tAfter x t - 2 * nAfter x n
+      listed (Listed k u) e y = stored-is (recordIn bytes) (length buffer) k u e
+      listed (Short needed) e y = absurd (false≢true (zero-listed (Short needed) y))
+      listed (Refused x) e y = absurd (false≢true (zero-listed (Refused x) y))
+
+      answer : Bool → ListAnswer
+      answer b = cond b (sendAnswer (recordIn bytes) (updating (recordIn bytes)) (length buffer)) (Refused Unsound)
+
+      go : (b : Bool) → listNumber (answer b) ≡ 0 →
+          storedAfter (answer b) (updateStored (recordIn bytes) (length buffer)) stored ≡ tAfter (answer b) t - 2 * nAfter (answer b) n
+      go true y = listed (sendAnswer (recordIn bytes) (updating (recordIn bytes)) (length buffer)) refl y
+      go false y = absurd (false≢true (zero-listed (Refused Unsound) y))
+
+  -- and "A refused call changes no byte that was lent to it"
+  pub update-refused : (updateCall bytes buffer n t .answer ≡ 0 → ⊥) → updateStores bytes buffer stored ≡ stored
+  update-refused z = stored-keeps (updateAnswered bytes buffer) (updateStored (recordIn bytes) (length buffer)) stored z

@@ -22,13 +22,14 @@ use Rattle.panel.specs.PanelStep.{Panel, panelOf, panelStep}
 
 -- ---- Lists of calls
 
--- "each with any arguments and with bytes or a buffer of its own.", and with any n, t and needed where it may store them. The numbers
+-- "each with any arguments and with bytes or a buffer of its own.", and with any n, t, stored and needed where it may store them. The numbers
 -- are any, so those that a uint32_t holds are among them.
 pub record PanelCall : Type 0 where
   pub request : Request
   pub lent : List ℕ
   pub n : ℕ
   pub t : ℕ
+  pub stored : ℕ
   pub needed : ℕ
 
 -- "The first gets the record of an accepted Open," and a chip of the same member, bus and pins at reset values: what lp586x_open and
@@ -44,7 +45,7 @@ pub record PanelOpened (m b p : ℕ) (memory : Panel) : Type 0 where
 -- "each next one the record the last one returned, refused or not; nobody else writes it."
 abbrev pub panelRun : Panel → List PanelCall → Panel
 panelRun w [] = w
-panelRun w (c ∷ cs) = panelRun (panelStep w (c .request) (c .lent) (c .n) (c .t) (c .needed) .panel) cs
+panelRun w (c ∷ cs) = panelRun (panelStep w (c .request) (c .lent) (c .n) (c .t) (c .stored) (c .needed) .panel) cs
 
 -- the bytes of the record and of its chip after these calls
 abbrev pub panelAfter : ℕ → ℕ → ℕ → Panel → List PanelCall → Panel
@@ -61,7 +62,7 @@ panelTell w c = toldOf (c .request) (c .lent)
 -- "the calls in order": of each next one on the panel that the last one left
 abbrev pub panelTold : Panel → List PanelCall → List Told
 panelTold w [] = []
-panelTold w (c ∷ cs) = panelTell w c ∷ panelTold (panelStep w (c .request) (c .lent) (c .n) (c .t) (c .needed) .panel) cs
+panelTold w (c ∷ cs) = panelTell w c ∷ panelTold (panelStep w (c .request) (c .lent) (c .n) (c .t) (c .stored) (c .needed) .panel) cs
 
 -- the ledger's bytes after these calls
 abbrev pub panelLedger : ℕ → ℕ → ℕ → Panel → List PanelCall → List ℕ
@@ -92,8 +93,8 @@ abbrev pub updateLeaves : Panel → List ℕ → ℕ → ℕ → ListOutcome
 updateLeaves w buffer n t = updateCall (w .host) buffer n t
 
 -- The calls, of which the first gets the panel w, are those `before`, an Update with this buffer that answers 0, and those `behind` it.
-pub record PanelUpdates (w : Panel) (calls before behind : List PanelCall) (buffer : List ℕ) (n t needed : ℕ) : Type 0 where
-  pub calls-are : calls ≡ before ++ (record { request = Update; lent = buffer; n = n; t = t; needed = needed } ∷ behind)
+pub record PanelUpdates (w : Panel) (calls before behind : List PanelCall) (buffer : List ℕ) (n t stored needed : ℕ) : Type 0 where
+  pub calls-are : calls ≡ before ++ (record { request = Update; lent = buffer; n = n; t = t; stored = stored; needed = needed } ∷ behind)
   pub answers : updateLeaves (panelRun w before) buffer n t .answer ≡ 0
 
 module _ (m b p : ℕ) where
@@ -115,10 +116,10 @@ module _ (m b p : ℕ) where
   -- the bytes s.
   pub record PanelDemand3 (s : List ℕ) (w : Panel) (calls : List PanelCall) : Type 0 where
     -- demand 3: "no update names an address outside the member's writable ones": no accepted Update, wherever it stands
-    pub names : (before behind : List PanelCall) (buffer : List ℕ) (n t needed : ℕ) → PanelUpdates w calls before behind buffer n t needed →
+    pub names : (before behind : List PanelCall) (buffer : List ℕ) (n t stored needed : ℕ) → PanelUpdates w calls before behind buffer n t stored needed →
         AllAllowed b p (headerIn (panelRun w before .host)) (transactions (listOf (updateLeaves (panelRun w before) buffer n t)))
     -- demand 3: "and if the last call is an accepted update"
-    pub last : (before : List PanelCall) (buffer : List ℕ) (n t needed : ℕ) → PanelUpdates w calls before [] buffer n t needed →
+    pub last : (before : List PanelCall) (buffer : List ℕ) (n t stored needed : ℕ) → PanelUpdates w calls before [] buffer n t stored needed →
         PanelOwed (entries m s (panelTold w calls)) (panelRun w before) (panelRun w calls) (updateLeaves (panelRun w before) buffer n t)
     -- Q-3 of document 02: "but the register values are owed once a chip wanted on is finished", whatever the last call was. "A chip is finished
     -- when its pending list is empty."

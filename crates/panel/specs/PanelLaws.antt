@@ -1,7 +1,7 @@
 -- One call on the bytes of a world leaves the bytes of the world after that call, one lemma for each call, and so does any list of
 -- calls. It also answers the number of that call, and leaves the lent bytes as that call does.
 -- Assumes nothing.
-use mathlib.Core.Path.{_≡_, refl, ap, ap₂, _∙_}
+use mathlib.Core.Path.{_≡_, refl, sym, ap, ap₂, _∙_}
 use mathlib.Core.Bool.{true, false≢true}
 use mathlib.Core.List.{List, [], _∷_, map}
 use Prim.Native.Nat.{ℕ}
@@ -14,7 +14,8 @@ use Rattle.host.specs.declared.Record.{Record}
 use Rattle.host.specs.Record.{settingNumbers, changedTo, settingOf, powerLostOf}
 use Rattle.update.specs.declared.ListAnswer.{ListAnswer}
 use Rattle.update.specs.declared.ListAnswer.the-variants.{Listed, Short, Refused}
-use Rattle.update.specs.Update.{listNumber, Sending, sendOf, sendBuffer, updating, resetting}
+use Rattle.update.specs.Update.{listNumber, Sending, sendOf, sendBuffer, updating, updateOf, resetting}
+use Rattle.update.specs.StoredLaws.{update-number}
 use Rattle.chip.specs.Chip.{feedOf}
 use Rattle.history.specs.declared.World.{World}
 use Rattle.history.specs.Ledger.{Told, toldOf, entries}
@@ -22,7 +23,7 @@ use Rattle.history.specs.Step.{callNumbers, listIn, fedBy, sendStep, stepOf}
 use Rattle.history.specs.History.{run, told}
 use Rattle.history.specs.WorldLaws.{Holds, event-holds}
 use Rattle.capi.specs.Capi.{recordBytes, chipBytes, valueAfter, nAfter, tAfter, Outcome, ListOutcome}
-use Rattle.capi.specs.Calls.{sendCall, updateNeeded, chipFeedCall}
+use Rattle.capi.specs.Calls.{sendCall, updateStores, updateNeeded, chipFeedCall}
 use Rattle.capi.specs.CapiLaws.{zero-listed}
 use Rattle.capi.specs.CallLaws.{listOutcomeOf, setting-of-call, power-lost-call, send-call, feed-call, chip-power-lost-call}
 use Rattle.panel.specs.PanelStep.{Panel, panelOf, chipFed, panelList, panelStep}
@@ -40,7 +41,7 @@ pub record Whole (w : World) : Type 0 where
   pub image : length (w .host .image) ≡ 908
   pub registers : length (w .chip .registers) ≡ 908
 
-module _ (w : World) (whole : Whole w) (lent : List ℕ) (n t needed : ℕ) where
+module _ (w : World) (whole : Whole w) (lent : List ℕ) (n t stored needed : ℕ) where
   abbrev r : Record
   r = w .host
 
@@ -62,31 +63,33 @@ module _ (w : World) (whole : Whole w) (lent : List ℕ) (n t needed : ℕ) wher
   sent : (f : Record → Sending) → sendCall f (recordBytes r) lent n t ≡ listOutcomeOf (sendOf r (f r) (length lent)) (sendBuffer r (f r) lent) n t
   sent f = send-call r (whole .settings) (whole .image) f lent n t
 
-  send-bytes : (f : Record → Sending) (k : ℕ) → panelList (sendCall f (recordBytes r) lent n t) chip k .panel ≡ bytesOf (sendStep w (f r) lent .world)
-  send-bytes f k =
+  send-bytes : (f : Record → Sending) (k j : ℕ) → panelList (sendCall f (recordBytes r) lent n t) chip k j .panel ≡ bytesOf (sendStep w (f r) lent .world)
+  send-bytes f k j =
       ap (λ (z : ListOutcome). panelOf (z .bytes) (chipFed (z .answer) (z .n) (z .t) (z .buffer) chip)) (sent f)
       ∙ ap (λ (z : List ℕ). panelOf (recordBytes (sendOf r (f r) (length lent) .host)) z) (list-fed (sendOf r (f r) (length lent) .answer) (sendBuffer r (f r) lent))
 
   -- the panel that a call on the bytes of the world leaves is that of the world after the call
-  pub step-bytes : (request : Request) → panelStep (bytesOf w) request lent n t needed .panel ≡ bytesOf (stepOf w request lent .world)
+  pub step-bytes : (request : Request) → panelStep (bytesOf w) request lent n t stored needed .panel ≡ bytesOf (stepOf w request lent .world)
   step-bytes (Set q) = ap (λ (z : Outcome). panelOf (z .bytes) chip) (setting-of-call r (whole .settings) (whole .image) q lent)
-  step-bytes Reset = send-bytes resetting needed
+  step-bytes Reset = send-bytes resetting stored needed
   step-bytes PowerLost =
       ap₂ (λ (x y : Outcome). panelOf (x .bytes) (y .bytes)) (power-lost-call r (whole .settings) (whole .image))
       (chip-power-lost-call (w .chip) (whole .registers))
-  step-bytes Update = send-bytes updating (updateNeeded (recordBytes r) lent needed)
+  step-bytes Update = send-bytes updating (updateStores (recordBytes r) lent stored) (updateNeeded (recordBytes r) lent needed)
 
   -- it answers the number of the call by value
   pub step-answers : (request : Request) →
-      panelStep (bytesOf w) request lent n t needed .answer ≡ callNumbers (stepOf w request lent .answer) .number
+      panelStep (bytesOf w) request lent n t stored needed .answer ≡ callNumbers (stepOf w request lent .answer) .number
   unfolding settingOf changedTo settingNumbers powerLostOf numbersOf
   step-answers (Set q) = ap (λ (x : Outcome). x .answer) (setting-of-call r (whole .settings) (whole .image) q lent)
   step-answers Reset = ap (λ (x : ListOutcome). x .answer) (sent resetting)
   step-answers PowerLost = ap (λ (x : Outcome). x .answer) (power-lost-call r (whole .settings) (whole .image))
-  step-answers Update = ap (λ (x : ListOutcome). x .answer) (sent updating)
+  step-answers Update =
+      ap (λ (x : ListOutcome). x .answer) (sent updating)
+      ∙ sym (update-number (updateOf r (length lent) .answer) (updateOf r (length lent) .stored))
 
   -- and leaves the lent bytes as that call does
-  pub step-lent : (request : Request) → panelStep (bytesOf w) request lent n t needed .lent ≡ stepOf w request lent .lent
+  pub step-lent : (request : Request) → panelStep (bytesOf w) request lent n t stored needed .lent ≡ stepOf w request lent .lent
   step-lent (Set q) = refl
   step-lent Reset = ap (λ (x : ListOutcome). x .buffer) (sent resetting)
   step-lent PowerLost = refl
@@ -106,13 +109,13 @@ module _ (m b p : ℕ) (o : opens m b p ≡ true) where
   pub run-bytes : (calls : List PanelCall) (s : List ℕ) (w : World) → Holds m b p s w → panelRun (bytesOf w) calls ≡ bytesOf (run w (map eventOf calls))
   run-bytes [] s w h = refl
   run-bytes (c ∷ cs) s w h =
-      ap (λ (x : Panel). panelRun x cs) (step-bytes w (whole s w h) (c .lent) (c .n) (c .t) (c .needed) (c .request))
+      ap (λ (x : Panel). panelRun x cs) (step-bytes w (whole s w h) (c .lent) (c .n) (c .t) (c .stored) (c .needed) (c .request))
       ∙ run-bytes cs (entries m s (told w (eventOf c ∷ []))) (stepOf w (c .request) (c .lent) .world) (event-holds m b p o s w h (eventOf c))
 
   -- the ledger is told the same of both
   pub run-told : (calls : List PanelCall) (s : List ℕ) (w : World) → Holds m b p s w → panelTold (bytesOf w) calls ≡ told w (map eventOf calls)
   run-told [] s w h = refl
   run-told (c ∷ cs) s w h =
-      ap (λ (x : Panel). toldOf (c .request) (c .lent) ∷ panelTold x cs) (step-bytes w (whole s w h) (c .lent) (c .n) (c .t) (c .needed) (c .request))
+      ap (λ (x : Panel). toldOf (c .request) (c .lent) ∷ panelTold x cs) (step-bytes w (whole s w h) (c .lent) (c .n) (c .t) (c .stored) (c .needed) (c .request))
       ∙ ap (λ (l : List Told). toldOf (c .request) (c .lent) ∷ l)
       (run-told cs (entries m s (told w (eventOf c ∷ []))) (stepOf w (c .request) (c .lent) .world) (event-holds m b p o s w h (eventOf c)))

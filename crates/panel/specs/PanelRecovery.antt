@@ -22,12 +22,12 @@ panelFailed m b p memory calls registers = panelOf (panelAfter m b p memory call
 -- ---- The Reset
 
 -- A Reset on the panel w, with this buffer, answers 0;
-abbrev pub PanelResetAnswers : Panel → List ℕ → ℕ → ℕ → ℕ → Type 0
-PanelResetAnswers w buffer n t needed = panelStep w Reset buffer n t needed .answer ≡ 0
+abbrev pub PanelResetAnswers : Panel → List ℕ → ℕ → ℕ → ℕ → ℕ → Type 0
+PanelResetAnswers w buffer n t stored needed = panelStep w Reset buffer n t stored needed .answer ≡ 0
 
 -- and this is the panel once the chip heard its list.
-abbrev pub panelReset : Panel → List ℕ → ℕ → ℕ → ℕ → Panel
-panelReset w buffer n t needed = panelStep w Reset buffer n t needed .panel
+abbrev pub panelReset : Panel → List ℕ → ℕ → ℕ → ℕ → ℕ → Panel
+panelReset w buffer n t stored needed = panelStep w Reset buffer n t stored needed .panel
 
 -- ---- The claim
 
@@ -36,5 +36,5 @@ panelReset w buffer n t needed = panelStep w Reset buffer n t needed .panel
 abbrev pub PanelRecoveredLists : Type 0
 PanelRecoveredLists =
     (m b p : ℕ) (memory : Panel) → PanelOpened m b p memory → (calls : List PanelCall) (registers : List ℕ) → soundOf (chipOf m b p registers) ≡ true →
-    (buffer : List ℕ) (n t needed : ℕ) → PanelResetAnswers (panelFailed m b p memory calls registers) buffer n t needed → (behind : List PanelCall) →
-    PanelDemand3 m b p (panelLedger m b p memory calls) (panelReset (panelFailed m b p memory calls registers) buffer n t needed) behind
+    (buffer : List ℕ) (n t stored needed : ℕ) → PanelResetAnswers (panelFailed m b p memory calls registers) buffer n t stored needed → (behind : List PanelCall) →
+    PanelDemand3 m b p (panelLedger m b p memory calls) (panelReset (panelFailed m b p memory calls registers) buffer n t stored needed) behind

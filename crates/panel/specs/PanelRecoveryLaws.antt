@@ -28,7 +28,7 @@ use Rattle.panel.specs.PanelTheorem.{opened, takes, after-bytes, ledger-
 use Rattle.panel.specs.PanelRecovery.{panelFailed, PanelResetAnswers, panelReset, PanelRecoveredLists}
 
 module _ (m b p : ℕ) (memory : Panel) (o : PanelOpened m b p memory) (calls : List PanelCall) (registers : List ℕ)
-    (sound : soundOf (chipOf m b p registers) ≡ true) (buffer : List ℕ) (n t needed : ℕ) where
+    (sound : soundOf (chipOf m b p registers) ≡ true) (buffer : List ℕ) (n t stored needed : ℕ) where
   abbrev same-calls : List Event
   same-calls = map eventOf calls
 
@@ -53,30 +53,30 @@ module _ (m b p : ℕ) (memory : Panel) (o : PanelOpened m b p memory) (calls : 
   abbrev answer : ListAnswer
   answer = chipResetOf (world .host) (length buffer) .answer
 
-  answer-is : panelStep panel Reset buffer n t needed .answer ≡ listNumber answer
+  answer-is : panelStep panel Reset buffer n t stored needed .answer ≡ listNumber answer
   unfolding numbersOf
   answer-is =
-      ap (λ (w : Panel). panelStep w Reset buffer n t needed .answer) failed-bytes ∙ step-answers world sizes buffer n t needed Reset
+      ap (λ (w : Panel). panelStep w Reset buffer n t stored needed .answer) failed-bytes ∙ step-answers world sizes buffer n t stored needed Reset
 
-  reset-bytes : panelReset panel buffer n t needed ≡ bytesOf (resetWorld world buffer)
-  reset-bytes = ap (λ (w : Panel). panelReset w buffer n t needed) failed-bytes ∙ step-bytes world sizes buffer n t needed Reset
+  reset-bytes : panelReset panel buffer n t stored needed ≡ bytesOf (resetWorld world buffer)
+  reset-bytes = ap (λ (w : Panel). panelReset w buffer n t stored needed) failed-bytes ∙ step-bytes world sizes buffer n t stored needed Reset
 
   -- nine bytes of buffer are always enough
-  pub panel-reset-accepted : 9 ≤ length buffer → PanelResetAnswers panel buffer n t needed
+  pub panel-reset-accepted : 9 ≤ length buffer → PanelResetAnswers panel buffer n t stored needed
   panel-reset-accepted room =
       let by-value : ResetAnswers world buffer 1 3 = reset-accepted m b p (opened m b p memory o) same-calls registers buffer room in
       answer-is ∙ ap (λ (x : answers.CallAnswer). listNumber (listOf x)) by-value
 
-  module _ (e : PanelResetAnswers panel buffer n t needed) where
+  module _ (e : PanelResetAnswers panel buffer n t stored needed) where
     answers-so : ResetAnswers world buffer (nAfter answer n) (tAfter answer t)
     answers-so = ap answers.the-variants.List (zero-stores answer n t (sym answer-is ∙ e))
 
     holds : Holds m b p (ledgerAfter m b p same-calls) (resetWorld world buffer)
     holds = failed-recovers m b p (opened m b p memory o) same-calls registers sound buffer (nAfter answer n) (tAfter answer t) answers-so
 
-    recovered : (behind : List PanelCall) → PanelDemand3 m b p (panelLedger m b p memory calls) (panelReset panel buffer n t needed) behind
+    recovered : (behind : List PanelCall) → PanelDemand3 m b p (panelLedger m b p memory calls) (panelReset panel buffer n t stored needed) behind
     recovered behind =
-        subst (λ (s : List ℕ). PanelDemand3 m b p s (panelReset panel buffer n t needed) behind) (sym (ledger-after m b p memory o calls))
+        subst (λ (s : List ℕ). PanelDemand3 m b p s (panelReset panel buffer n t stored needed) behind) (sym (ledger-after m b p memory o calls))
         (subst (λ (w : Panel). PanelDemand3 m b p (ledgerAfter m b p same-calls) w behind) (sym reset-bytes)
         (panel-owes m b p (takes m b p memory o) (ledgerAfter m b p same-calls) (resetWorld world buffer) holds behind))
 

@@ -1,6 +1,6 @@
 -- One call of include/lp586x.h on what a C program keeps, by the promises of its functions (capi, specs/Calls.antt): document 01,
 -- "The ledger and whole lists". A panel is the bytes of a host's record, `host`, and those of its chip; `lent` is the bytes of a scene, or
--- the buffer of a call that writes a list; n, t and needed are what stands where a call stores them. To be read beside
+-- the buffer of a call that writes a list; n, t, stored and needed are what stands where a call stores them. To be read beside
 -- specs/Step.antt of the crate history.
 -- Assumes nothing.
 use mathlib.Core.Bool.{cond}
@@ -11,7 +11,7 @@ use Rattle.history.specs.Step.{listIn}
 use Rattle.capi.specs.Capi.{Outcome, ListOutcome}
 use Rattle.calls.specs.declared.Request.{Request}
 use Rattle.calls.specs.declared.Request.the-variants.{Set, Reset, PowerLost, Update}
-use Rattle.capi.specs.Calls.{settingCall, powerLostCall, updateCall, updateNeeded, resetCall, chipPowerLostCall, chipFeedCall}
+use Rattle.capi.specs.Calls.{settingCall, powerLostCall, updateCall, updateStores, updateNeeded, resetCall, chipPowerLostCall, chipFeedCall}
 
 -- ---- What a C program keeps
 
@@ -30,10 +30,11 @@ pub record PanelStepped : Type 0 where
   pub lent : List ℕ
   pub n : ℕ
   pub t : ℕ
+  pub stored : ℕ
   pub needed : ℕ
 
-abbrev pub stepped : ℕ → Panel → List ℕ → ℕ → ℕ → ℕ → PanelStepped
-stepped answer panel lent n t needed = record { answer = answer; panel = panel; lent = lent; n = n; t = t; needed = needed }
+abbrev pub stepped : ℕ → Panel → List ℕ → ℕ → ℕ → ℕ → ℕ → PanelStepped
+stepped answer panel lent n t stored needed = record { answer = answer; panel = panel; lent = lent; n = n; t = t; stored = stored; needed = needed }
 
 -- ---- What the chip gets
 
@@ -45,17 +46,18 @@ chipFed answer n t buffer chip = cond (eqb answer 0) (chipFeedCall chip (listIn 
 -- ---- A step
 
 -- a call that answers a number alone, and the chip after it; it stores nothing else
-abbrev pub panelSetting : Outcome → List ℕ → List ℕ → ℕ → ℕ → ℕ → PanelStepped
-panelSetting x chip lent n t needed = stepped (x .answer) (panelOf (x .bytes) chip) lent n t needed
+abbrev pub panelSetting : Outcome → List ℕ → List ℕ → ℕ → ℕ → ℕ → ℕ → PanelStepped
+panelSetting x chip lent n t stored needed = stepped (x .answer) (panelOf (x .bytes) chip) lent n t stored needed
 
--- a call that writes a list, the chip before it, and the length needed after it
-abbrev pub panelList : ListOutcome → List ℕ → ℕ → PanelStepped
-panelList x chip needed =
-    stepped (x .answer) (panelOf (x .bytes) (chipFed (x .answer) (x .n) (x .t) (x .buffer) chip)) (x .buffer) (x .n) (x .t) needed
+-- a call that writes a list, the chip before it, and what else stands there after it
+abbrev pub panelList : ListOutcome → List ℕ → ℕ → ℕ → PanelStepped
+panelList x chip stored needed =
+    stepped (x .answer) (panelOf (x .bytes) (chipFed (x .answer) (x .n) (x .t) (x .buffer) chip)) (x .buffer) (x .n) (x .t) stored needed
 
 -- A setting is one of five functions, each of which promises this definition of its Setting. "at Power lost the chip loses power."
-abbrev pub panelStep : Panel → Request → List ℕ → ℕ → ℕ → ℕ → PanelStepped
-panelStep w (Set q) lent n t needed = panelSetting (settingCall (w .host) q lent) (w .chip) lent n t needed
-panelStep w Reset lent n t needed = panelList (resetCall (w .host) lent n t) (w .chip) needed
-panelStep w PowerLost lent n t needed = panelSetting (powerLostCall (w .host)) (chipPowerLostCall (w .chip) .bytes) lent n t needed
-panelStep w Update lent n t needed = panelList (updateCall (w .host) lent n t) (w .chip) (updateNeeded (w .host) lent needed)
+abbrev pub panelStep : Panel → Request → List ℕ → ℕ → ℕ → ℕ → ℕ → PanelStepped
+panelStep w (Set q) lent n t stored needed = panelSetting (settingCall (w .host) q lent) (w .chip) lent n t stored needed
+panelStep w Reset lent n t stored needed = panelList (resetCall (w .host) lent n t) (w .chip) stored needed
+panelStep w PowerLost lent n t stored needed = panelSetting (powerLostCall (w .host)) (chipPowerLostCall (w .chip) .bytes) lent n t stored needed
+panelStep w Update lent n t stored needed =
+    panelList (updateCall (w .host) lent n t) (w .chip) (updateStores (w .host) lent stored) (updateNeeded (w .host) lent needed)

@@ -18,7 +18,7 @@ use Rattle.host.specs.Record.{headerOf, recordOf, soundOf, openOf}
 use Rattle.host.specs.SoundLaws.{is-sound}
 use Rattle.update.specs.declared.ListAnswer.{ListAnswer}
 use Rattle.update.specs.declared.ListAnswer.the-variants.{Listed}
-use Rattle.update.specs.Update.{listNumber, sendOf, writesOf, updating, updateOf, updateBuffer}
+use Rattle.update.specs.Update.{listNumber, sendOf, writesOf, updating, updateStored, updateOf, updateBuffer}
 use Rattle.update.specs.SendLaws.{answered, answer-of}
 use Rattle.update.specs.BoundLaws.{always-room}
 use Rattle.chip.specs.declared.Chip.{Chip}
@@ -121,7 +121,7 @@ module _ (m b p : ℕ) (so : opens m b p ≡ true) (s : List ℕ) (w : World) (h
       answer = updateOf (world .host) (length buffer) .answer
 
       abbrev left : ListOutcome
-      left = listOutcomeOf (updateOf (world .host) (length buffer)) (updateBuffer (world .host) buffer) n t
+      left = listOutcomeOf (sendOf (world .host) (updating (world .host)) (length buffer)) (updateBuffer (world .host) buffer) n t
 
       left-is : updateLeaves (panelRun (bytesOf w) calls) buffer n t ≡ left
       left-is =
@@ -148,14 +148,14 @@ module _ (m b p : ℕ) (so : opens m b p ≡ true) (s : List ℕ) (w : World) (h
 
   -- ---- an Update that answered 0
 
-  module _ (calls before behind : List PanelCall) (buffer : List ℕ) (n t needed : ℕ) (u : PanelUpdates (bytesOf w) calls before behind buffer n t needed) where
+  module _ (calls before behind : List PanelCall) (buffer : List ℕ) (n t stored needed : ℕ) (u : PanelUpdates (bytesOf w) calls before behind buffer n t stored needed) where
     abbrev stores : ListAnswer
     stores = answer before buffer n t
 
-    updates : Updates w (map eventOf calls) (map eventOf before) (map eventOf behind) buffer (nAfter stores n) (tAfter stores t)
+    updates : Updates w (map eventOf calls) (map eventOf before) (map eventOf behind) buffer (nAfter stores n) (tAfter stores t) (updateStored (world before .host) (length buffer))
     updates = record {
-      events-are = ap (map eventOf) (u .calls-are) ∙ map-append eventOf before (record { request = Update; lent = buffer; n = n; t = t; needed = needed } ∷ behind);
-      answers = ap answers.the-variants.List (zero-stores stores n t (ap (λ (x : ListOutcome). x .answer) (sym (left-is before buffer n t)) ∙ u .answers));
+      events-are = ap (map eventOf) (u .calls-are) ∙ map-append eventOf before (record { request = Update; lent = buffer; n = n; t = t; stored = stored; needed = needed } ∷ behind);
+      answers = ap (λ (x : ListAnswer). answers.the-variants.Update x (updateStored (world before .host) (length buffer))) (zero-stores stores n t (ap (λ (x : ListOutcome). x .answer) (sym (left-is before buffer n t)) ∙ u .answers));
     }
 
     names-so : AllAllowed b p (headerIn (panelRun (bytesOf w) before .host)) (transactions (listOf (updateLeaves (panelRun (bytesOf w) before) buffer n t)))
@@ -163,15 +163,15 @@ module _ (m b p : ℕ) (so : opens m b p ≡ true) (s : List ℕ) (w : World) (h
         subst (λ (x : ListOutcome). AllAllowed b p (headerIn (panelRun (bytesOf w) before .host)) (transactions (listOf x))) (sym (left-is before buffer n t))
         (subst (λ (x : Header). AllAllowed b p x (transactions (listOf (left before buffer n t))))
         (sym (ap (λ (x : Panel). headerIn (x .host)) (run-is before) ∙ header-is (world before .host)))
-        (holds-owes m b p so s w h (map eventOf calls) .names (map eventOf before) (map eventOf behind) buffer (nAfter stores n) (tAfter stores t) updates))
+        (holds-owes m b p so s w h (map eventOf calls) .names (map eventOf before) (map eventOf behind) buffer (nAfter stores n) (tAfter stores t) (updateStored (world before .host) (length buffer)) updates))
 
-  module _ (calls before : List PanelCall) (buffer : List ℕ) (n t needed : ℕ) (u : PanelUpdates (bytesOf w) calls before [] buffer n t needed) where
+  module _ (calls before : List PanelCall) (buffer : List ℕ) (n t stored needed : ℕ) (u : PanelUpdates (bytesOf w) calls before [] buffer n t stored needed) where
     abbrev found : ListOutcome
     found = left before buffer n t
 
     -- the claim by value, and in it the worlds before and after the Update
     claim : Owed m b p (asked calls) (world before) (world calls) (listOf found) (found .n) (found .t)
-    claim = holds-owes m b p so s w h (map eventOf calls) .last (map eventOf before) buffer (found .n) (found .t) (updates calls before [] buffer n t needed u)
+    claim = holds-owes m b p so s w h (map eventOf calls) .last (map eventOf before) buffer (found .n) (found .t) (updateStored (world before .host) (length buffer)) (updates calls before [] buffer n t stored needed u)
 
     -- on the bytes of those worlds
     owed-bytes : PanelOwed m b p (asked calls) (bytesOf (world before)) (bytesOf (world calls)) found
@@ -216,8 +216,8 @@ module _ (m b p : ℕ) (so : opens m b p ≡ true) (s : List ℕ) (w : World) (h
   -- Demand 3 is owed from there
   pub panel-owes : (calls : List PanelCall) → PanelDemand3 m b p s (bytesOf w) calls
   panel-owes calls = record {
-    names = λ before behind buffer n t needed u. names-so calls before behind buffer n t needed u;
-    last = λ before buffer n t needed u. last-so calls before buffer n t needed u;
+    names = λ before behind buffer n t stored needed u. names-so calls before behind buffer n t stored needed u;
+    last = λ before buffer n t stored needed u. last-so calls before buffer n t stored needed u;
     finished = finished-so calls;
   }
 
@@ -281,15 +281,15 @@ panel-whole-lists m b p memory o calls =
 
 -- lamp by lamp
 pub lamps-owed : (m b p : ℕ) (s : List ℕ) (w : Panel) (calls : List PanelCall) → PanelDemand3 m b p s w calls →
-    (before : List PanelCall) (buffer : List ℕ) (n t needed : ℕ) → PanelUpdates w calls before [] buffer n t needed →
+    (before : List PanelCall) (buffer : List ℕ) (n t stored needed : ℕ) → PanelUpdates w calls before [] buffer n t stored needed →
     wantsOn (entries m s (panelTold w calls)) ≡ true → (l k : ℕ) → isDot m l k ≡ true →
     SameLamp (registersIn (panelRun w calls .chip)) (entries m s (panelTold w calls)) l k
-lamps-owed m b p s w calls d before buffer n t needed u on =
-    same-lamp m (registersIn (panelRun w calls .chip)) (entries m s (panelTold w calls)) (d .last before buffer n t needed u .values on)
+lamps-owed m b p s w calls d before buffer n t stored needed u on =
+    same-lamp m (registersIn (panelRun w calls .chip)) (entries m s (panelTold w calls)) (d .last before buffer n t stored needed u .values on)
 
 -- No lamp is stale: each one reads from the chip's bytes what the ledger says.
-pub no-lamp-stale : (m b p : ℕ) (memory : Panel) → PanelOpened m b p memory → (calls before : List PanelCall) (buffer : List ℕ) (n t needed : ℕ) →
-    PanelUpdates (panelStart m b p memory) calls before [] buffer n t needed → wantsOn (panelLedger m b p memory calls) ≡ true → (l k : ℕ) → isDot m l k ≡ true →
+pub no-lamp-stale : (m b p : ℕ) (memory : Panel) → PanelOpened m b p memory → (calls before : List PanelCall) (buffer : List ℕ) (n t stored needed : ℕ) →
+    PanelUpdates (panelStart m b p memory) calls before [] buffer n t stored needed → wantsOn (panelLedger m b p memory calls) ≡ true → (l k : ℕ) → isDot m l k ≡ true →
     SameLamp (registersIn (panelAfter m b p memory calls .chip)) (panelLedger m b p memory calls) l k
 no-lamp-stale m b p memory o calls = lamps-owed m b p (resetImage m) (panelStart m b p memory) calls (panel-whole-lists m b p memory o calls)
 

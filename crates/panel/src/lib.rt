@@ -18,11 +18,12 @@ pub fn call(
     lent: &mut [u8],
     n: &mut u32,
     t: &mut u32,
+    stored: &mut u32,
     needed: &mut u32,
 ) -> u32
     ensures { λ r. ⌜
-        stepped r (panelOf (now (host .exit)) (now (chip .exit))) (now (lent .exit)) (now (n .exit)) (now (t .exit)) (now (needed .exit)) ≡
-        panelStep (panelOf (now (host .entry)) (now (chip .entry))) request (now (lent .entry)) (now (n .entry)) (now (t .entry)) (now (needed .entry))
+        stepped r (panelOf (now (host .exit)) (now (chip .exit))) (now (lent .exit)) (now (n .exit)) (now (t .exit)) (now (stored .exit)) (now (needed .exit)) ≡
+        panelStep (panelOf (now (host .entry)) (now (chip .entry))) request (now (lent .entry)) (now (n .entry)) (now (t .entry)) (now (stored .entry)) (now (needed .entry))
         ⌝ }
 {
     match request {
@@ -37,7 +38,7 @@ pub fn call(
             capi::lp586x_power_lost(host)
         }
         Request::Update => {
-            let answer = capi::lp586x_update(host, lent, n, t, needed);
+            let answer = capi::lp586x_update(host, lent, n, t, stored, needed);
             feed(answer, chip, lent, *n, *t);
             answer
         }

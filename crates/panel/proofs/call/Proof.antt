@@ -40,7 +40,7 @@ lp586x-update-requires c κs = search needs
 feed-requires-2 : tie.Need-feed-requires-2
 feed-requires-2 c κs =
     let made = c .before .before .before .before .before .before .before .before in
-    update-room _ _ _ _ _ _ _ _ _ _ (made .lp586x-update .kept .1 .0) _ _ (made .lp586x-update .ensures)
+    update-room _ _ _ _ _ _ _ _ _ _ (made .lp586x-update .kept .1 .0) _ _ _ _ (made .lp586x-update .ensures)
 
 same-length : tie.Need-same-length
 same-length c = search needs
@@ -49,7 +49,7 @@ same-length-2 : tie.Need-same-length-2
 same-length-2 c = search needs
 
 returns : tie.Need-returns
-returns c = setting-step _ _ _ _ _ _ _ _ _ (c .before .before .before .before .before .before .request .given .1) (c .before .before .set .ensures)
+returns c = setting-step _ _ _ _ _ _ _ _ _ _ (c .before .before .before .before .before .before .request .given .1) (c .before .before .set .ensures)
 
 same-length-3 : tie.Need-same-length-3
 same-length-3 c = search needs
@@ -63,7 +63,7 @@ same-length-5 c = search needs
 returns-2 : tie.Need-returns-2
 returns-2 c =
     let made = c .before .before .before .before .before .before .before .before .before .before .before in
-    reset-step _ _ _ _ _ _ _ _ _ _ _ _ (made .before .before .before .before .before .enum-told .given .1) (made .lp586x-reset .ensures) (c .before .before .feed .ensures)
+    reset-step _ _ _ _ _ _ _ _ _ _ _ _ _ (made .before .before .before .before .before .enum-told .given .1) (made .lp586x-reset .ensures) (c .before .before .feed .ensures)
 
 same-length-6 : tie.Need-same-length-6
 same-length-6 c = search needs
@@ -74,7 +74,7 @@ same-length-7 c = search needs
 returns-3 : tie.Need-returns-3
 returns-3 c =
     let lost = c .before .before .before .before .before .before in
-    power-lost-step _ _ _ _ _ _ _ _ _ (lost .before .before .enum-told2 .given .1) (c .before .before .lp586x-power-lost .ensures) (lost .lp586x-chip-power-lost .ensures .1)
+    power-lost-step _ _ _ _ _ _ _ _ _ _ (lost .before .before .enum-told2 .given .1) (c .before .before .lp586x-power-lost .ensures) (lost .lp586x-chip-power-lost .ensures .1)
 
 same-length-8 : tie.Need-same-length-8
 same-length-8 c = search needs
@@ -88,7 +88,7 @@ same-length-10 c = search needs
 returns-4 : tie.Need-returns-4
 returns-4 c =
     let made = c .before .before .before .before .before .before .before .before .before .before .before in
-    update-step _ _ _ _ _ _ _ _ _ _ _ _ _ (made .before .before .before .before .before .before .enum-told3 .given .1) (made .lp586x-update .ensures) (c .before .before .feed2 .ensures)
+    update-step _ _ _ _ _ _ _ _ _ _ _ _ _ _ _ (made .before .before .before .before .before .before .before .enum-told3 .given .1) (made .lp586x-update .ensures) (c .before .before .feed2 .ensures)
 
 pub call-spec : {M : Type 1} → statement M
 call-spec =
