@@ -28,7 +28,7 @@ static void set_lamp(uint8_t *record, uint32_t dot, uint32_t level)
 
 static void update_of(struct situation *s, uint8_t *record)
 {
-    must(lp586x_update(record, LP586X_RECORD_SIZE, s->list, sizeof s->list, &s->n, &s->t, &s->needed));
+    must(lp586x_update(record, LP586X_RECORD_SIZE, s->list, sizeof s->list, &s->n, &s->t, &s->stored, &s->needed));
     s->list_size = 4 + 2 * s->n + s->t;
 }
 
@@ -194,7 +194,7 @@ static uint32_t call_power_lost(const struct interface *calls, struct situation 
 
 static uint32_t call_update(const struct interface *calls, struct situation *s)
 {
-    return calls->update(s->record, sizeof s->record, s->buffer, sizeof s->buffer, &s->n, &s->t, &s->needed);
+    return calls->update(s->record, sizeof s->record, s->buffer, sizeof s->buffer, &s->n, &s->t, &s->stored, &s->needed);
 }
 
 static uint32_t call_reset(const struct interface *calls, struct situation *s)

@@ -20,7 +20,7 @@ struct situation {
     uint8_t scene[2 + 3 * SCENE_ENTRIES];
     uint8_t faults[LP586X_FAULT_BYTES];
     uint8_t result[LP586X_DOTS];
-    uint32_t n, t, needed;
+    uint32_t n, t, stored, needed;
     uint8_t records[PLACES][LP586X_RECORD_SIZE];
     uint8_t round[LP586X_ROUND_SIZE];
 };

@@ -30,9 +30,9 @@ struct cost panel_update(struct panel *panel)
 {
     uint8_t list[LP586X_UPDATE_SIZE];
     struct cost cost;
-    uint32_t needed;
+    uint32_t stored, needed;
 
-    must(lp586x_update(panel->record, sizeof panel->record, list, sizeof list, &cost.writes, &cost.bytes, &needed));
+    must(lp586x_update(panel->record, sizeof panel->record, list, sizeof list, &cost.writes, &cost.bytes, &stored, &needed));
     must(lp586x_chip_feed(panel->chip, sizeof panel->chip, list, 4 + 2 * cost.writes + cost.bytes));
     if (memcmp(panel->chip + 3, panel->record + 3, LP586X_REGISTERS) != 0)
         fail("the chip does not hold the settings");

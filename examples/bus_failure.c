@@ -32,10 +32,10 @@ static void lamp(struct panel *panel, uint32_t line, uint32_t sink, uint32_t lev
 
 static void make_list(struct panel *panel)
 {
-    uint32_t needed;
+    uint32_t stored, needed;
 
     memcpy(panel->copy, panel->record, sizeof panel->copy);
-    must(lp586x_update(panel->record, sizeof panel->record, panel->list, sizeof panel->list, &panel->n, &panel->t, &needed));
+    must(lp586x_update(panel->record, sizeof panel->record, panel->list, sizeof panel->list, &panel->n, &panel->t, &stored, &needed));
 }
 
 static void send_list(struct panel *panel)

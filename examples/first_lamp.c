@@ -30,7 +30,7 @@ static int send(const uint8_t *bytes, uint32_t length)
 
 static void first_lamp(uint32_t bus)
 {
-    uint32_t n, t, needed, offset, length;
+    uint32_t n, t, stored, needed, offset, length;
 
     must(lp586x_open(record, sizeof record, LP586X_LP5860, bus, 0));
 
@@ -45,7 +45,7 @@ static void first_lamp(uint32_t bus)
     must(lp586x_lamp(record, sizeof record, 0, 2, 255));
 
     /* Nothing was sent so far. The update makes a list of transactions, and each goes over the bus. */
-    must(lp586x_update(record, sizeof record, list, sizeof list, &n, &t, &needed));
+    must(lp586x_update(record, sizeof record, list, sizeof list, &n, &t, &stored, &needed));
     for (uint32_t i = 0; i < n; i++) {
         must(lp586x_transaction(list, 4 + 2 * n + t, i, &offset, &length));
         if (!send(list + offset, length))

@@ -38,7 +38,7 @@ static uint32_t send_list(int bus, uint8_t *list, size_t list_size)
 int main(int count, char **arguments)
 {
     static uint8_t record[LP586X_RECORD_SIZE], list[LP586X_UPDATE_SIZE];
-    uint32_t n, t, needed, sent;
+    uint32_t n, t, stored, needed, sent;
     int bus = count == 2 ? open(arguments[1], O_RDWR) : -1;
 
     if (bus < 0) {
@@ -47,7 +47,7 @@ int main(int count, char **arguments)
     }
     if (lp586x_open(record, sizeof record, LP586X_LP5860, LP586X_I2C, 0) || lp586x_register(record, sizeof record, 0x000, 0x01) ||
         lp586x_register(record, sizeof record, 0x001, 0x58) || lp586x_lamp(record, sizeof record, 0, 2, 255) ||
-        lp586x_update(record, sizeof record, list, sizeof list, &n, &t, &needed))
+        lp586x_update(record, sizeof record, list, sizeof list, &n, &t, &stored, &needed))
         return 2;
     sent = send_list(bus, list, 4 + 2 * n + t);
     printf("I2C: %u of %u transactions sent\n", sent, n);

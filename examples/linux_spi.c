@@ -36,7 +36,7 @@ int main(int count, char **arguments)
 {
     static uint8_t record[LP586X_RECORD_SIZE], list[LP586X_UPDATE_SIZE];
     uint8_t mode = SPI_MODE_0; /* data are taken at the rising edge of the clock */
-    uint32_t n, t, needed, sent;
+    uint32_t n, t, stored, needed, sent;
     int bus = count == 2 ? open(arguments[1], O_RDWR) : -1;
 
     if (bus < 0 || ioctl(bus, SPI_IOC_WR_MODE, &mode) < 0) {
@@ -45,7 +45,7 @@ int main(int count, char **arguments)
     }
     if (lp586x_open(record, sizeof record, LP586X_LP5860, LP586X_SPI, 0) || lp586x_register(record, sizeof record, 0x000, 0x01) ||
         lp586x_register(record, sizeof record, 0x001, 0x58) || lp586x_lamp(record, sizeof record, 0, 2, 255) ||
-        lp586x_update(record, sizeof record, list, sizeof list, &n, &t, &needed))
+        lp586x_update(record, sizeof record, list, sizeof list, &n, &t, &stored, &needed))
         return 2;
     sent = send_list(bus, list, 4 + 2 * n + t);
     printf("SPI: %u of %u transactions sent\n", sent, n);

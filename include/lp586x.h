@@ -9,8 +9,8 @@
  *   13 fault bytes not 67  14 unsound record or chip, or its size is wrong
  *   15 limit of a round    16 record on SPI, or its pins are not its place
  *   26 no such transaction
- * A call checks in the order in which its refusals stand below. A refused call changes no byte that was lent to it; 10 of
- * lp586x_update alone stores the length needed.
+ * A call checks in the order in which its refusals stand below. A refused call changes no byte that was lent to it, n, t and stored
+ * among them; 10 of lp586x_update alone stores the length needed.
  *
  * A record is LP586X_RECORD_SIZE bytes in the caller's memory, a chip of the model LP586X_CHIP_SIZE: static storage, a stack or a file
  * will do. Nothing is allocated and nothing is kept between calls. The memory of two arguments of one call must not overlap, and no
@@ -39,9 +39,9 @@
 extern "C" {
 #endif
 
-#define LP586X_VERSION "3.1.0"
-#define LP586X_VERSION_MAJOR 3
-#define LP586X_VERSION_MINOR 1
+#define LP586X_VERSION "4.0.0"
+#define LP586X_VERSION_MAJOR 4
+#define LP586X_VERSION_MINOR 0
 #define LP586X_VERSION_PATCH 0
 
 /* Members and buses. */
@@ -143,9 +143,12 @@ uint32_t lp586x_power_lost(uint8_t *record, size_t record_size);
  * lp586x_power_lost does not do: a register whose setting is its reset value would keep what it has. See examples/bus_failure.c. */
 
 /* The shortest list that brings the chip to the settings; t is at most 702. While the settings have the chip off (000h bit 0 clear), it
- * only turns the chip off, and other settings wait. 0 stores n and t; 10 stores the length needed. 14, 10 (buffer under 4 + 2n + t).
- * Changes record, buffer, n, t and needed, none null. */
-uint32_t lp586x_update(uint8_t *record, size_t record_size, uint8_t *buffer, size_t buffer_size, uint32_t *n, uint32_t *t, uint32_t *needed);
+ * only turns the chip off, and other settings wait. Into the record it copies nothing but the bytes that it sends: stored is how many
+ * bytes of the chip image it has stored, the data bytes of the list, t - 2n. 0 stores n, t and stored; 10 stores the length needed.
+ * 14, 10 (buffer under 4 + 2n + t).
+ * Changes record, buffer, n, t, stored and needed, none null. */
+uint32_t lp586x_update(uint8_t *record, size_t record_size, uint8_t *buffer, size_t buffer_size, uint32_t *n, uint32_t *t,
+                       uint32_t *stored, uint32_t *needed);
 
 /* Every register of the chip to its reset value; the settings are kept, so that the next update sends them. 0 stores n and t.
  * Once its list was sent whole, the record is right again, whatever the chip had heard of lists before. 14, 10 (buffer under 9).

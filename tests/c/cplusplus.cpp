@@ -34,7 +34,7 @@ void group_cplusplus(void)
                                                           0x80, 0x00, 0x01, 0x80, 0x01, 0x58, 0x84, 0x02, 0x40};
     std::array<std::uint8_t, LP586X_RECORD_SIZE> record;
     std::array<std::uint8_t, LP586X_UPDATE_SIZE> buffer;
-    std::uint32_t n = 0, t = 0, needed = 0, offset = 0, length = 0;
+    std::uint32_t n = 0, t = 0, stored = 0, needed = 0, offset = 0, length = 0;
     bool equal = true;
 
     group("C++");
@@ -42,8 +42,8 @@ void group_cplusplus(void)
     check(lp586x_register(record.data(), record.size(), 0x000, 0x01) == LP586X_OK, "register 000h");
     check(lp586x_register(record.data(), record.size(), 0x001, 0x58) == LP586X_OK, "register 001h");
     check(lp586x_lamp(record.data(), record.size(), 0, 2, 0x40) == LP586X_OK, "lamp");
-    check(lp586x_update(record.data(), record.size(), buffer.data(), buffer.size(), &n, &t, &needed) == LP586X_OK, "update");
-    check(n == 3 && t == 9, "n is %u, t is %u", n, t);
+    check(lp586x_update(record.data(), record.size(), buffer.data(), buffer.size(), &n, &t, &stored, &needed) == LP586X_OK, "update");
+    check(n == 3 && t == 9 && stored == 3, "n is %u, t is %u, stored is %u", n, t, stored);
     for (std::size_t i = 0; i < expected.size(); i++)
         equal = equal && buffer[i] == expected[i];
     check(equal, "other list bytes");

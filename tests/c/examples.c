@@ -3,6 +3,7 @@
 
 #include "check.h"
 #include "groups.h"
+#include "reference.h"
 #include "world.h"
 
 static void expect_list(const struct outcome *outcome, const uint8_t *bytes, size_t size)
@@ -75,8 +76,10 @@ static void first_updates(void)
     first_update(LP586X_I2C, &outcome, &world);
     EXPECT_LIST(&outcome, 0x03, 0x00, 0x09, 0x00, 0x03, 0x00, 0x03, 0x00, 0x03, 0x00, 0x80, 0x00, 0x01, 0x80, 0x01, 0x58, 0x84,
                 0x02, 0x40);
+    check(outcome.stored == 3, "stored is %u", outcome.stored);
     outcome = world_list(&world, UPDATE, LP586X_UPDATE_SIZE);
     EXPECT_LIST(&outcome, 0x00, 0x00, 0x00, 0x00);
+    check(outcome.stored == 0, "stored is %u", outcome.stored);
 
     context("SPI transactions of the same");
     first_update(LP586X_SPI, &outcome, &world);
@@ -95,6 +98,7 @@ static void joined_writes(void)
     must_set(&world, REGISTER, 0x205, 0x22, 0);
     outcome = world_list(&world, UPDATE, LP586X_UPDATE_SIZE);
     EXPECT_LIST(&outcome, 0x01, 0x00, 0x06, 0x00, 0x06, 0x00, 0x84, 0x02, 0x11, 0x00, 0x00, 0x22);
+    check(outcome.stored == 4, "stored is %u", outcome.stored);
 
     context("chip on, only 202h and 206h differ");
     start_on(&world, LP586X_LP5860);
@@ -102,6 +106,7 @@ static void joined_writes(void)
     must_set(&world, REGISTER, 0x206, 0x22, 0);
     outcome = world_list(&world, UPDATE, LP586X_UPDATE_SIZE);
     EXPECT_LIST(&outcome, 0x02, 0x00, 0x06, 0x00, 0x03, 0x00, 0x03, 0x00, 0x84, 0x02, 0x11, 0x84, 0x06, 0x22);
+    check(outcome.stored == 2, "stored is %u", outcome.stored);
 }
 
 static void places_of_dots(void)
@@ -193,6 +198,7 @@ static void chip_off(void)
     must_set(&world, LAMP, 0, 0, 8);
     outcome = world_list(&world, UPDATE, 9);
     EXPECT_LIST(&outcome, 1, 0, 3, 0, 3, 0, 0x90, 0x00, 0x00);
+    check(outcome.stored == 1, "stored is %u", outcome.stored);
     must_set(&world, REGISTER, 0x000, 0x01, 0);
     outcome = world_list(&world, UPDATE, 14);
     EXPECT_LIST(&outcome, 2, 0, 6, 0, 3, 0, 3, 0, 0x90, 0x00, 0x01, 0x94, 0x00, 0x08);
@@ -279,6 +285,16 @@ static void change_all(struct world *world, uint32_t member)
                 break;
 }
 
+static uint32_t writable_registers(uint32_t member)
+{
+    uint32_t count = 0;
+
+    for (uint32_t address = 0; address < LP586X_REGISTERS; address++)
+        count += (uint32_t)reference_writable(member, address);
+    return count;
+}
+
+/* All writable registers, each stored once. */
 static void largest_updates(void)
 {
     static const uint32_t largest[] = {702, 84, 270, 302, 518};
@@ -290,6 +306,7 @@ static void largest_updates(void)
         change_all(&world, member);
         outcome = world_sync(&world);
         check(outcome.t == largest[member], "member %u: t is %u", member, outcome.t);
+        check(outcome.stored == writable_registers(member), "member %u: stored is %u", member, outcome.stored);
     }
 }
 
@@ -316,6 +333,7 @@ static void longest_list(void)
     check(outcome.answer == 10 && outcome.needed == 885, "answer %u, needed %u", outcome.answer, outcome.needed);
     outcome = world_list(&world, UPDATE, 885);
     check(outcome.answer == 0 && outcome.n == 175 && outcome.t == 531, "n is %u, t is %u", outcome.n, outcome.t);
+    check(outcome.stored == 181, "stored is %u", outcome.stored);
 }
 
 void group_examples(void)

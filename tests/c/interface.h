@@ -15,7 +15,7 @@ struct interface {
     uint32_t (*scene)(uint8_t *record, size_t record_size, const uint8_t *scene, size_t scene_size);
     uint32_t (*power_lost)(uint8_t *record, size_t record_size);
     uint32_t (*update)(uint8_t *record, size_t record_size, uint8_t *buffer, size_t buffer_size, uint32_t *n, uint32_t *t,
-                       uint32_t *needed);
+                       uint32_t *stored, uint32_t *needed);
     uint32_t (*reset)(uint8_t *record, size_t record_size, uint8_t *buffer, size_t buffer_size, uint32_t *n, uint32_t *t);
     uint32_t (*clear)(const uint8_t *record, size_t record_size, uint8_t *buffer, size_t buffer_size, uint32_t *n, uint32_t *t);
     uint32_t (*round)(uint8_t *records, size_t records_size, uint32_t present, uint32_t limit, uint8_t *buffer, size_t buffer_size,

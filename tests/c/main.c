@@ -25,6 +25,7 @@ int main(int count, char **arguments)
     group_heads();
     group_chip();
     group_transactions();
+    group_stores();
     group_faults();
     group_cplusplus();
     group_histories(strtoull(arguments[2], NULL, 0));

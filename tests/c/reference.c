@@ -446,9 +446,12 @@ static uint32_t plan_writes(const struct record *record, struct write *writes)
     return n;
 }
 
-/* n writes, their lengths at one place and their bytes at another; the chip image takes their data. Answers where the bytes end. */
-static uint8_t *put_writes(struct record *record, const struct write *writes, uint32_t n, uint8_t *lengths, uint8_t *at)
+/* n writes, their lengths at one place and their bytes at another; the chip image takes their data and nothing else. Answers how many
+ * bytes it has stored. */
+static uint32_t put_writes(struct record *record, const struct write *writes, uint32_t n, uint8_t *lengths, uint8_t *at)
 {
+    uint32_t stored = 0;
+
     for (uint32_t i = 0; i < n; i++) {
         uint32_t start = writes[i].start, length = writes[i].length;
 
@@ -456,13 +459,14 @@ static uint8_t *put_writes(struct record *record, const struct write *writes, ui
         put_head(at, record->bus, record->pins, start);
         memcpy(at + 2, record->settings + start, length);
         memcpy(record->image + start, record->settings + start, length);
+        stored += length;
         at += 2 + length;
     }
-    return at;
+    return stored;
 }
 
 uint32_t reference_update(uint8_t *bytes, size_t size, uint8_t *buffer, size_t buffer_size, uint32_t *n, uint32_t *t,
-                          uint32_t *needed)
+                          uint32_t *stored, uint32_t *needed)
 {
     struct record *record = (struct record *)bytes;
     struct write writes[MOST_WRITES];
@@ -479,7 +483,7 @@ uint32_t reference_update(uint8_t *bytes, size_t size, uint8_t *buffer, size_t b
     }
     put_two(buffer, count);
     put_two(buffer + 2, total);
-    put_writes(record, writes, count, buffer + 4, buffer + 4 + 2 * count);
+    *stored = put_writes(record, writes, count, buffer + 4, buffer + 4 + 2 * count);
     *n = count;
     *t = total;
     return ACCEPTED;
@@ -580,8 +584,9 @@ static void put_round(struct record *records, const struct pending *pending, uin
     put_two(buffer, n);
     put_two(buffer + 2, t);
     for (uint32_t place = 0; place < PLACES; place++) {
-        at = put_writes(&records[place], pending[place].writes, pending[place].n, lengths, at);
+        put_writes(&records[place], pending[place].writes, pending[place].n, lengths, at);
         lengths += 2 * pending[place].n;
+        at += pending[place].sent;
     }
 }
 

@@ -20,7 +20,7 @@ uint32_t reference_switch(uint8_t *record, size_t record_size, uint32_t line, ui
 uint32_t reference_scene(uint8_t *record, size_t record_size, const uint8_t *scene, size_t scene_size);
 uint32_t reference_power_lost(uint8_t *record, size_t record_size);
 uint32_t reference_update(uint8_t *record, size_t record_size, uint8_t *buffer, size_t buffer_size, uint32_t *n, uint32_t *t,
-                          uint32_t *needed);
+                          uint32_t *stored, uint32_t *needed);
 uint32_t reference_reset(uint8_t *record, size_t record_size, uint8_t *buffer, size_t buffer_size, uint32_t *n, uint32_t *t);
 uint32_t reference_clear(const uint8_t *record, size_t record_size, uint8_t *buffer, size_t buffer_size, uint32_t *n, uint32_t *t);
 uint32_t reference_round(uint8_t *records, size_t records_size, uint32_t present, uint32_t limit, uint8_t *buffer, size_t buffer_size,

@@ -180,9 +180,14 @@ static void lists(const struct world *world)
     }
     /* Only Update's refusal carries a value. */
     outcome = expect(LP586X_BUFFER_SHORT, list_call_of(world, UPDATE, 13));
-    check(outcome.needed == 14 && outcome.n == OUT_UNTOUCHED && outcome.t == OUT_UNTOUCHED, "needed is %u", outcome.needed);
+    check(outcome.needed == 14 && outcome.n == OUT_UNTOUCHED && outcome.t == OUT_UNTOUCHED && outcome.stored == OUT_UNTOUCHED,
+          "needed is %u", outcome.needed);
+    outcome = expect(LP586X_UNSOUND, unsound(list_call_of(world, UPDATE, 14)));
+    check(outcome.needed == OUT_UNTOUCHED && outcome.n == OUT_UNTOUCHED && outcome.t == OUT_UNTOUCHED && outcome.stored == OUT_UNTOUCHED,
+          "something is stored");
     outcome = expect(LP586X_OK, list_call_of(world, UPDATE, 14));
-    check(outcome.needed == OUT_UNTOUCHED && outcome.n == 2 && outcome.t == 6, "n is %u, t is %u", outcome.n, outcome.t);
+    check(outcome.needed == OUT_UNTOUCHED && outcome.n == 2 && outcome.t == 6 && outcome.stored == 2, "n is %u, t is %u, stored is %u",
+          outcome.n, outcome.t, outcome.stored);
     expect(LP586X_OK, list_call_of(world, RESET, 9));
     outcome = expect(LP586X_BUFFER_SHORT, list_call_of(world, CLEAR, 9));
     check(outcome.needed == OUT_UNTOUCHED && outcome.n == OUT_UNTOUCHED && outcome.t == OUT_UNTOUCHED, "something is stored");

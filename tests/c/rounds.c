@@ -87,11 +87,11 @@ static void step(struct cursor *cursor)
 static uint32_t pending(const uint8_t *record, uint8_t *list)
 {
     uint8_t copy[LP586X_RECORD_SIZE];
-    uint32_t n = 0, t = 0, needed, answer;
+    uint32_t n = 0, t = 0, stored = 0, needed, answer;
 
     memcpy(copy, record, sizeof copy);
-    answer = lp586x_update(copy, sizeof copy, list, LP586X_UPDATE_SIZE, &n, &t, &needed);
-    check(answer == 0, "an update is refused with %u", answer);
+    answer = lp586x_update(copy, sizeof copy, list, LP586X_UPDATE_SIZE, &n, &t, &stored, &needed);
+    check(answer == 0 && stored == t - 2 * n, "an update is answered %u, %u, %u, %u", answer, n, t, stored);
     return t;
 }
 

@@ -49,6 +49,7 @@ static void buffer_sizes(struct world *world)
 
         check(outcome.answer == (size < 19 ? 10 : 0), "an update of 19 bytes: answers %u at %zu", outcome.answer, size);
         check(size >= 19 || outcome.needed == 19, "needed is %u", outcome.needed);
+        check(outcome.stored == (size < 19 ? OUT_UNTOUCHED : 3), "stored is %u at %zu", outcome.stored, size);
     }
     for (enum kind kind = RESET; kind <= CLEAR; kind++) {
         for (size_t size = 0; size <= 64; size++) {
@@ -171,7 +172,7 @@ static void sizes_beyond_32_bits(const struct world *world)
     const size_t four_gib = (size_t)1 << 32;
     uint8_t *memory = mmap(NULL, four_gib + ROOM_BEHIND, PROT_READ | PROT_WRITE, MAP_PRIVATE | MAP_ANONYMOUS | MAP_NORESERVE, -1, 0);
     uint8_t record[LP586X_RECORD_SIZE], chip[LP586X_CHIP_SIZE], small[LP586X_DOTS] = {0}, result[LP586X_DOTS];
-    uint32_t n, t, needed;
+    uint32_t n, t, stored, needed;
 
     if (memory == MAP_FAILED) {
         perror("mmap");
@@ -181,7 +182,7 @@ static void sizes_beyond_32_bits(const struct world *world)
     memcpy(chip, world->chip, sizeof chip);
     check(lp586x_reset(record, sizeof record, memory, four_gib, &n, &t) == 0, "reset, 2^32 bytes of buffer");
     check(lp586x_clear(record, sizeof record, memory, four_gib + 9, &n, &t) == 0, "clear, 2^32 + 9");
-    check(lp586x_update(record, sizeof record, memory, four_gib, &n, &t, &needed) == 0, "update, 2^32");
+    check(lp586x_update(record, sizeof record, memory, four_gib, &n, &t, &stored, &needed) == 0, "update, 2^32");
     check(lp586x_faults(record, sizeof record, small, 67, memory, four_gib + 197, &n, &t) == 0, "faults, a result of 2^32 + 197");
 
     memset(memory, 0, 4096);

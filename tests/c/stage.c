@@ -10,13 +10,15 @@
 
 #include "check.h"
 #include "interface.h"
+#include "lp586x.h"
 #include "random.h"
+#include "stores.h"
 
-enum { CANARY = 32, CANARY_BYTE = 0xC5, CAPACITY = 1 << 18, RANGES = 6 };
+enum { CANARY = 32, CANARY_BYTE = 0xC5, CAPACITY = 1 << 18, RANGES = 7 };
 
-enum { STATE, INPUT, BUFFER, N, T, NEEDED };
+enum { STATE, INPUT, BUFFER, N, T, STORED, NEEDED };
 
-static const char *const range_names[RANGES] = {"record or chip", "input", "buffer", "n", "t", "needed"};
+static const char *const range_names[RANGES] = {"record or chip", "input", "buffer", "n", "t", "stored", "needed"};
 
 struct range {
     uint8_t *memory; /* CAPACITY bytes, then memory that may not be touched */
@@ -173,13 +175,13 @@ static uint32_t call_record(const struct interface *calls, const struct call *ca
 }
 
 static uint32_t call_list(const struct interface *calls, const struct call *call, uint8_t *record, uint8_t *buffer, uint32_t *n,
-                          uint32_t *t, uint32_t *needed)
+                          uint32_t *t, uint32_t *stored, uint32_t *needed)
 {
     size_t size = call->state_size, buffer_size = call->buffer_size;
 
     switch (call->kind) {
     case UPDATE:
-        return calls->update(record, size, buffer, buffer_size, n, t, needed);
+        return calls->update(record, size, buffer, buffer_size, n, t, stored, needed);
     case RESET:
         return calls->reset(record, size, buffer, buffer_size, n, t);
     default:
@@ -208,12 +210,13 @@ static void perform(struct side *side, const struct call *call)
     uint8_t *state = side->ranges[STATE].bytes, *input = side->ranges[INPUT].bytes, *buffer = side->ranges[BUFFER].bytes;
     uint32_t *n = (uint32_t *)(void *)side->ranges[N].bytes;
     uint32_t *t = (uint32_t *)(void *)side->ranges[T].bytes;
+    uint32_t *stored = (uint32_t *)(void *)side->ranges[STORED].bytes;
     uint32_t *needed = (uint32_t *)(void *)side->ranges[NEEDED].bytes;
 
     if (call->kind <= POWER_LOST)
         side->answer = call_record(calls, call, state, input);
     else if (call->kind <= CLEAR)
-        side->answer = call_list(calls, call, state, buffer, n, t, needed);
+        side->answer = call_list(calls, call, state, buffer, n, t, stored, needed);
     else if (call->kind == FAULTS)
         side->answer = calls->faults(state, call->state_size, input, call->input_size, buffer, call->buffer_size, n, t);
     else if (call->kind == ROUND)
@@ -299,6 +302,20 @@ static void check_behind_list(const struct call *call)
           "%s: changed the buffer behind its list of %zu bytes", call_text(call), size);
 }
 
+/* "Copy only the stretches that were sent": the data bytes of the list, read here once more, make the old record the new one. */
+static void check_stored(const struct call *call)
+{
+    uint32_t n = stored_number(N), t = stored_number(T), stored = stored_number(STORED), named;
+    uint8_t expected[LP586X_RECORD_SIZE];
+
+    memcpy(expected, before[STATE], sizeof expected);
+    named = take_list(expected, sides[0].ranges[BUFFER].bytes);
+    check(stored == t - 2 * n, "%s: stored is %u, n is %u, t is %u", call_text(call), stored, n, t);
+    check(stored == named, "%s: stored is %u, but the list names %u addresses", call_text(call), stored, named);
+    check(memcmp(sides[0].ranges[STATE].bytes, expected, sizeof expected) == 0, "%s: stored something else than the list's data bytes",
+          call_text(call));
+}
+
 static int answers_a_list(enum kind kind)
 {
     return kind == UPDATE || kind == RESET || kind == CLEAR || kind == ROUND;
@@ -318,9 +335,12 @@ struct outcome both(const struct call *call)
     check_only_read(call);
     if (sides[0].answer == 0 && answers_a_list(call->kind))
         check_behind_list(call);
+    if (sides[0].answer == 0 && call->kind == UPDATE)
+        check_stored(call);
     return (struct outcome){.answer = sides[0].answer,
                             .n = stored_number(N),
                             .t = stored_number(T),
+                            .stored = stored_number(STORED),
                             .needed = stored_number(NEEDED),
                             .state = sides[0].ranges[STATE].bytes,
                             .buffer = sides[0].ranges[BUFFER].bytes};

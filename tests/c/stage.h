@@ -3,7 +3,8 @@
  * Each range of bytes that a call is lent stands alone: canaries in front of it, and behind it either canaries or the end of the
  * memory that the program may touch. After the call both sides must agree in the answer and in every lent byte; a refused call
  * must have changed no byte, but for the length needed that refusal 10 of Update stores; behind its list the buffer must hold what
- * it held; no canary may have changed.
+ * it held; no canary may have changed. After an accepted Update the chip image must have taken the data bytes of the list, the rest of
+ * the record must be what it was, and stored must be their count.
  */
 #ifndef STAGE_H
 #define STAGE_H
@@ -44,7 +45,7 @@ struct call {
 struct outcome {
     uint32_t answer;
     /* FAULTS: opens_agree, shorts_agree; TRANSACTION: offset, length; OUT_UNTOUCHED where nothing was stored */
-    uint32_t n, t, needed;
+    uint32_t n, t, stored, needed;
     const uint8_t *state;
     const uint8_t *buffer;
 };

@@ -150,12 +150,12 @@ static uint32_t lists, transactions;
 static void try_cues(uint32_t member, uint32_t bus, uint32_t pins)
 {
     uint8_t record[LP586X_RECORD_SIZE], list[LP586X_UPDATE_SIZE];
-    uint32_t n, t, needed;
+    uint32_t n, t, stored, needed;
 
     must(lp586x_open(record, sizeof record, member, bus, pins) == LP586X_OK, "open");
     for (int cue = 0; cue < 8; cue++) {
         random_cue(record);
-        must(lp586x_update(record, sizeof record, list, sizeof list, &n, &t, &needed) == LP586X_OK, "update");
+        must(lp586x_update(record, sizeof record, list, sizeof list, &n, &t, &stored, &needed) == LP586X_OK, "update");
         send_and_compare(bus, list, 4 + 2 * n + t, NEVER, -1);
         must(wire_size == t, "not all bytes on the bus");
         for (uint32_t failure = 0; failure < n; failure++) {

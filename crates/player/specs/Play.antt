@@ -252,11 +252,11 @@ echoedText p l = echoText (p .echo) (p .lines) l ++ lineText p l
 unfoldable pub printed : Player → List ℕ → List ℕ
 printed p l = echoedText (counted p) (withoutCr l)
 
--- no line prints more bytes of its own, its LFs counted (PlayLaws): `0 n t BUFFER` of a round with four digits for n and for t, and 8,192
--- bytes
+-- no line prints more bytes of its own, its LFs counted (PlayLaws): `0 n t stored BUFFER` of an update with three digits for each, and
+-- 8,192 bytes
 abbrev pub longestText : ℕ
-longestText = 16397
+longestText = 16399
 
 -- nor with an echo before it, of ten digits, a space, 8,192 bytes and LF
 abbrev pub longestLine : ℕ
-longestLine = 24601
+longestLine = 24603

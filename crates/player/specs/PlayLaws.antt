@@ -1,5 +1,5 @@
--- Laws of Play.antt: `list` shows the last list whole; what an aside prints has no more bytes than a
--- round's line, and no line prints more than 24,601.
+-- Laws of Play.antt: `list` shows the last list whole; what an aside or a round prints has no more bytes than the longest line of an update,
+-- and no line prints more than 24,603.
 -- Assumes nothing.
 use mathlib.Core.Path.{_≡_, refl, _∙_}
 use mathlib.Core.Bool.{Bool, true, false, cond, not, _&&_}

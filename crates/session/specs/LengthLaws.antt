@@ -1,5 +1,5 @@
--- What a command replies has at most 16,395 bytes, since an answer with a buffer has at most `0 n t` with three digits for n and for t,
--- a buffer at most 16,384 digits, and between and behind them stand a space and LF. An answer without a buffer has at most five numbers
+-- What a command replies has at most 16,399 bytes, since an answer with a buffer has at most `0 n t stored` with three digits for each of
+-- them, a buffer at most 16,384 digits, and between and behind them stand a space and LF. An answer without a buffer has at most five numbers
 -- of 20 digits, whatever the call.
 -- Assumes nothing.
 use mathlib.Core.Path.{_≡_, refl, ap, subst}
@@ -13,13 +13,15 @@ use Rattle.map.specs.declared.refusals.Numbers as numbers
 use Rattle.map.specs.declared.refusals.Refusal.the-variants.{BufferShort, Unsound}
 use Rattle.map.specs.Refusals.{refusalNumber, numbersIn, numbersOf}
 use Rattle.map.specs.RefusalLaws.{refusal-small}
-use Rattle.burst.specs.Burst.{busBytes}
+use Rattle.burst.specs.Burst.{busBytes, dataBytes}
+use Rattle.burst.specs.BurstLaws.{bus-data}
 use Rattle.calls.specs.declared.Request.{Request}
 use Rattle.calls.specs.declared.Request.the-variants.{Set, Reset, PowerLost, Update}
 use Rattle.host.specs.declared.Record.{Record}
 use Rattle.host.specs.Record.{soundOf}
-use Rattle.update.specs.declared.ListAnswer.the-variants.{Listed, Refused}
-use Rattle.update.specs.Update.{listNumbers, listSize, writesOf, Sending, sendAnswer, sendOf, updating, command}
+use Rattle.update.specs.declared.ListAnswer.{ListAnswer}
+use Rattle.update.specs.declared.ListAnswer.the-variants.{Listed, Short, Refused}
+use Rattle.update.specs.Update.{listNumbers, updateNumbers, isListed, listSize, writesOf, Sending, sendAnswer, sendOf, updating, command}
 use Rattle.update.specs.BoundLaws.{bus-most, writes-few, size-most}
 use Rattle.faults.specs.declared.Answer as faults
 use Rattle.faults.specs.Faults.{answerNumbers, faultsAnswer}
@@ -47,30 +49,33 @@ use Rattle.session.specs.CheckLaws.{compared-plain}
 
 -- ---- answers
 
-alone-most : (n : ℕ) → n < 100 → length (numbersText (n ∷ [])) ≤ 9
+alone-most : (n : ℕ) → n < 100 → length (numbersText (n ∷ [])) ≤ 13
 alone-most n h = omega (arith, numbers-most 1 n [] [] h tt)
 
-value-most : (n v : ℕ) → n < 100 → v < 10000 → length (numbersText (n ∷ v ∷ [])) ≤ 9
+value-most : (n v : ℕ) → n < 100 → v < 10000 → length (numbersText (n ∷ v ∷ [])) ≤ 13
 value-most n v hn hv = omega (arith, numbers-most 1 n (3 ∷ []) (v ∷ []) hn (hv, tt))
 
-values-most : (n v w : ℕ) → n < 10 → v < 1000 → w < 1000 → length (numbersText (n ∷ v ∷ w ∷ [])) ≤ 9
-values-most n v w hn hv hw = numbers-most 0 n (2 ∷ 2 ∷ []) (v ∷ w ∷ []) hn (hv, (hw, tt))
+values-most : (n v w : ℕ) → n < 10 → v < 1000 → w < 1000 → length (numbersText (n ∷ v ∷ w ∷ [])) ≤ 13
+values-most n v w hn hv hw = omega (arith, numbers-most 0 n (2 ∷ 2 ∷ []) (v ∷ w ∷ []) hn (hv, (hw, tt)))
 
-held-most : (l : List ℕ) → length (numbersText l) ≤ 9 → length (numbersText (numbersIn (numbersOf l))) ≤ 9
+three-most : (n v w x : ℕ) → n < 10 → v < 1000 → w < 1000 → x < 1000 → length (numbersText (n ∷ v ∷ w ∷ x ∷ [])) ≤ 13
+three-most n v w x hn hv hw hx = numbers-most 0 n (2 ∷ 2 ∷ 2 ∷ []) (v ∷ w ∷ x ∷ []) hn (hv, (hw, (hx, tt)))
+
+held-most : (l : List ℕ) → length (numbersText l) ≤ 13 → length (numbersText (numbersIn (numbersOf l))) ≤ 13
 held-most l h = omega (arith, numbers-within l)
 
 -- n and t have three digits at most, and what a buffer that is too short is answered is no longer
 record Brief (x : Sending) : Type 0 where
   writes : length (x .writes) < 1000
   bytes : busBytes (x .writes) < 1000
-  short : length (numbersText (listNumbers (x .short))) ≤ 9
+  short : length (numbersText (listNumbers (x .short))) ≤ 13
 
-send-most : (r : Record) (x : Sending) (size : ℕ) → (soundOf r ≡ true → Brief x) → length (numbersText (listNumbers (sendAnswer r x size))) ≤ 9
+send-most : (r : Record) (x : Sending) (size : ℕ) → (soundOf r ≡ true → Brief x) → length (numbersText (listNumbers (sendAnswer r x size))) ≤ 13
 unfolding sendAnswer
 send-most r x size h = go (soundOf r) (leb (listSize (x .writes)) size) h
   where
     go : (b c : Bool) → (b ≡ true → Brief x) →
-        length (numbersText (listNumbers (cond b (cond c (Listed (length (x .writes)) (busBytes (x .writes))) (x .short)) (Refused Unsound)))) ≤ 9
+        length (numbersText (listNumbers (cond b (cond c (Listed (length (x .writes)) (busBytes (x .writes))) (x .short)) (Refused Unsound)))) ≤ 13
     go true true brief = values-most 0 (length (x .writes)) (busBytes (x .writes)) (omega arith) (brief refl .writes) (brief refl .bytes)
     go true false brief = brief refl .short
     go false c brief = alone-most (refusalNumber Unsound) (omega arith)
@@ -86,17 +91,31 @@ update-brief r e = record {
 command-brief : (a : ℕ) (values image : List ℕ) → length values ≤ 2 → Brief (command a values image)
 command-brief a values image h = record { writes = omega arith; bytes = omega arith; short = alone-most (refusalNumber BufferShort) (omega arith) }
 
-update-most : (w : World) (lent : List ℕ) → length (numbersText (numbersIn (callNumbers (stepOf w Update lent .answer)))) ≤ 9
-unfolding sendOf
-update-most w lent = held-most _ (send-most (w .host) (updating (w .host)) (length lent) (update-brief (w .host)))
+-- an update's answer has three digits more, of what it stored
+update-most : (w : World) (lent : List ℕ) → length (numbersText (numbersIn (callNumbers (stepOf w Update lent .answer)))) ≤ 13
+unfolding sendOf sendAnswer
+update-most w lent = held-most _ (go (soundOf (w .host)) refl (leb (listSize (writesOf (w .host))) (length lent)))
+  where
+    answer : Bool → Bool → ListAnswer
+    answer b c =
+        cond b (cond c (Listed (length (writesOf (w .host))) (busBytes (writesOf (w .host)))) (Short (listSize (writesOf (w .host))))) (Refused Unsound)
+
+    go : (b : Bool) → soundOf (w .host) ≡ b → (c : Bool) →
+        length (numbersText (updateNumbers (answer b c) (cond (isListed (answer b c)) (dataBytes (writesOf (w .host))) 0))) ≤ 13
+    go true e true =
+        let brief = update-brief (w .host) e in
+        three-most 0 (length (writesOf (w .host))) (busBytes (writesOf (w .host))) (dataBytes (writesOf (w .host))) (omega arith) (brief .writes)
+        (brief .bytes) (omega (arith, brief .bytes, bus-data (writesOf (w .host))))
+    go true e false = update-brief (w .host) e .short
+    go false e c = alone-most (refusalNumber Unsound) (omega arith)
 
 command-most : (w : World) (a : ℕ) (values image lent : List ℕ) → length values ≤ 2 →
-    length (numbersText (numbersIn (callNumbers (sendStep w (command a values image) lent .answer)))) ≤ 9
+    length (numbersText (numbersIn (callNumbers (sendStep w (command a values image) lent .answer)))) ≤ 13
 unfolding sendOf
 command-most w a values image lent h =
     held-most _ (send-most (w .host) (command a values image) (length lent) (λ e. command-brief a values image h))
 
-faults-most : (answer : faults.Answer) → length (numbersText (answerNumbers answer)) ≤ 9
+faults-most : (answer : faults.Answer) → length (numbersText (answerNumbers answer)) ≤ 13
 unfolding answerNumbers
 faults-most (faults.the-variants.Read o s) = values-most 0 _ _ (omega arith) (digit o) (digit s)
   where
@@ -111,7 +130,7 @@ faults-most (faults.the-variants.Refused r) = alone-most (refusalNumber r) (refu
 ShortLent : Reply → Type 0
 ShortLent Bad = 0 ≤ 0
 ShortLent (Numbers n) = 0 ≤ 0
-ShortLent (Lent n) = length (numbersText (numbersIn n)) ≤ 9
+ShortLent (Lent n) = length (numbersText (numbersIn n)) ≤ 13
 ShortLent Bytes = 0 ≤ 0
 ShortLent Same = 0 ≤ 0
 ShortLent (Differs a) = 0 ≤ 0
@@ -129,7 +148,7 @@ words-most n h =
           (omega arith, (omega arith, (omega arith, (omega arith, tt)))),
     )
 
-reply-most : (r : Reply) (x : List ℕ) → length x ≤ 8192 → Words r → ShortLent r → length (replyText r x) ≤ 16394
+reply-most : (r : Reply) (x : List ℕ) → length x ≤ 8192 → Words r → ShortLent r → length (replyText r x) ≤ 16398
 unfolding replyText ShortLent lentText
 reply-most Bad x h w s = omega arith
 reply-most (Numbers n) x h w s = omega (arith, words-most n w)
@@ -173,9 +192,10 @@ line-short s (commands.Header e v) l b f = omega arith
 line-short s commands.Check l b f = plain-short (compared s) (compared-plain s)
 line-short s commands.Pending l b f = omega arith
 
--- no command's line of reply has more bytes, its LF counted: `0 n t BUFFER` with three digits for n and for t, and 8,192 bytes
+-- no command's line of reply has more bytes, its LF counted: `0 n t stored BUFFER` of an update with three digits for each, and 8,192
+-- bytes
 abbrev pub longestReply : ℕ
-longestReply = 16395
+longestReply = 16399
 
 -- what a command replies that is a line's: it shows no more than the longest buffer, and its numbers are words; `run` promises both
 module _ (s : Session) (c : Command) (l b : List ℕ) (is : Run c ≡ lineOf l) where

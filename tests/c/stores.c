@@ -1,0 +1,343 @@
+/* What an update stores in its record: the bytes of the chip image that its list sends, and no others. A byte that gets the value which
+ * it had already shows in no comparison. So here the record stands in memory that may only be read; each store into it is noted and let
+ * through, and must begin at a byte that the list sends. Where only the bytes in front of the list's first address may not be changed,
+ * or those behind its last one, there must be no store into them. The library and the reference do each.
+ */
+#define _GNU_SOURCE
+#include "stores.h"
+
+#include <signal.h>
+#include <stdio.h>
+#include <stdlib.h>
+#include <string.h>
+#include <sys/mman.h>
+#include <ucontext.h>
+#include <unistd.h>
+
+#include "check.h"
+#include "groups.h"
+#include "interface.h"
+#include "random.h"
+#include "reference.h"
+#include "walk.h"
+#include "world.h"
+
+enum { MEMBERS = 5, ANY_SETTINGS = 100 };
+
+/* ---- Lists */
+
+static uint32_t address_of(uint32_t bus, const uint8_t *head)
+{
+    return bus == LP586X_SPI ? 4u * head[0] + head[1] / 64 : head[0] / 2 % 4 * 256u + head[1];
+}
+
+/* Marks the addresses with 1, too. */
+static uint32_t take_and_mark(uint8_t *record, const uint8_t *list, uint8_t *named)
+{
+    const uint32_t n = get_two(list);
+    const uint8_t *at = list + 4 + 2 * n;
+    uint32_t count = 0;
+
+    memset(named, 0, LP586X_REGISTERS);
+    for (uint32_t i = 0; i < n; i++) {
+        uint32_t length = get_two(list + 4 + 2 * i), address = address_of(record[1], at);
+
+        for (uint32_t j = 2; j < length && address < LP586X_REGISTERS; j++, address++) {
+            record[IMAGE + address] = at[j];
+            count += !named[address];
+            named[address] = 1;
+        }
+        at += length;
+    }
+    return count;
+}
+
+uint32_t take_list(uint8_t *record, const uint8_t *list)
+{
+    uint8_t named[LP586X_REGISTERS];
+
+    return take_and_mark(record, list, named);
+}
+
+/* ---- Memory that may only be read */
+
+enum part { FRONT, BEHIND };
+
+enum { NOWHERE = -1, TRAP_FLAG = 0x100 };
+
+struct trial {
+    struct outcome outcome;
+    uint32_t stores;   /* those that began in memory that may only be read */
+    ptrdiff_t outside; /* the first of them that began at a byte which the list does not send: its number in the record */
+};
+
+static uint8_t *memory; /* a page for each part */
+static size_t page;
+static enum part read_only;
+static uint8_t sent[LP586X_REGISTERS]; /* 1 for an address of the list */
+static struct trial trial;
+
+static int only_read(void)
+{
+    return mprotect(memory + read_only * page, page, PROT_READ) == 0;
+}
+
+static int all_open(void)
+{
+    return mprotect(memory, 2 * page, PROT_READ | PROT_WRITE) == 0;
+}
+
+/* A store: it is noted and let through. The processor stops behind it. */
+static void note_store(int number, siginfo_t *info, void *context)
+{
+    uint8_t *at = info->si_addr;
+    ptrdiff_t byte = at - trial.outcome.state, address = byte - IMAGE;
+
+    if (at < memory || at >= memory + 2 * page || !all_open()) {
+        signal(number, SIG_DFL);
+        return;
+    }
+    trial.stores++;
+    if (trial.outside == NOWHERE && !(address >= 0 && address < (ptrdiff_t)LP586X_REGISTERS && sent[address]))
+        trial.outside = byte;
+    ((ucontext_t *)context)->uc_mcontext.gregs[REG_EFL] |= TRAP_FLAG;
+}
+
+static void behind_store(int number, siginfo_t *info, void *context)
+{
+    (void)info;
+    if (!only_read())
+        signal(number, SIG_DFL);
+    ((ucontext_t *)context)->uc_mcontext.gregs[REG_EFL] &= ~TRAP_FLAG;
+}
+
+static void must_do(int done)
+{
+    if (!done) {
+        perror("tests/c: memory");
+        exit(1);
+    }
+}
+
+/* An update of a copy of the record, whose bytes in front of the one of this number, or from there on, may only be read. */
+static struct trial try_update(const struct interface *calls, const uint8_t *record, size_t edge, enum part part, size_t buffer_size)
+{
+    static uint8_t buffer[LP586X_UPDATE_SIZE];
+    const struct sigaction noting = {.sa_sigaction = note_store, .sa_flags = SA_SIGINFO};
+    const struct sigaction going_on = {.sa_sigaction = behind_store, .sa_flags = SA_SIGINFO};
+    struct sigaction old_noting, old_going_on;
+    uint8_t *lent = memory + page - edge;
+    struct outcome out = {OUT_UNTOUCHED, OUT_UNTOUCHED, OUT_UNTOUCHED, OUT_UNTOUCHED, OUT_UNTOUCHED, lent, buffer};
+
+    trial = (struct trial){out, 0, NOWHERE};
+    read_only = part;
+    memcpy(lent, record, LP586X_RECORD_SIZE);
+    must_do(sigaction(SIGSEGV, &noting, &old_noting) == 0 && sigaction(SIGTRAP, &going_on, &old_going_on) == 0 && only_read());
+    out.answer = calls->update(lent, LP586X_RECORD_SIZE, buffer, buffer_size, &out.n, &out.t, &out.stored, &out.needed);
+    must_do(all_open() && sigaction(SIGSEGV, &old_noting, NULL) == 0 && sigaction(SIGTRAP, &old_going_on, NULL) == 0);
+    trial.outcome = out;
+    return trial;
+}
+
+/* The whole record may only be read. */
+static struct trial try_read_only(const struct interface *calls, const uint8_t *record, size_t buffer_size)
+{
+    return try_update(calls, record, LP586X_RECORD_SIZE, FRONT, buffer_size);
+}
+
+/* ---- What must come of it */
+
+static const struct interface *const sides[] = {&library, &reference};
+
+/* The record after an update; the first address of its list is from, and the last is to - 1. */
+struct expected {
+    uint8_t record[LP586X_RECORD_SIZE];
+    uint32_t stored;
+    size_t from, to;
+};
+
+static void expect(const struct interface *calls, struct trial tried, const struct expected *expected)
+{
+    const struct outcome *out = &tried.outcome;
+
+    check(tried.outside == NOWHERE, "%s, member %u: stores byte %td of the record, which the list does not send", calls->name,
+          expected->record[0], tried.outside);
+    check(out->answer == 0 && out->stored == expected->stored, "%s: answers %u, %u stored, not %u", calls->name, out->answer,
+          out->stored, expected->stored);
+    check(memcmp(out->state, expected->record, sizeof expected->record) == 0, "%s: another record", calls->name);
+}
+
+/* With all of the record, the bytes in front of the list's addresses, and those behind them. */
+static void expect_three(const struct interface *calls, const uint8_t *record, const struct expected *expected)
+{
+    struct trial whole = try_read_only(calls, record, LP586X_UPDATE_SIZE);
+
+    expect(calls, whole, expected);
+    check(whole.stores > 0, "%s: no store is noted", calls->name);
+    expect(calls, try_update(calls, record, IMAGE + expected->from, FRONT, LP586X_UPDATE_SIZE), expected);
+    expect(calls, try_update(calls, record, IMAGE + expected->to, BEHIND, LP586X_UPDATE_SIZE), expected);
+}
+
+/* The update is accepted and stores so many bytes. */
+static void expect_stored(const uint8_t *record, uint32_t stored)
+{
+    struct expected expected = {.stored = stored, .to = LP586X_REGISTERS};
+    uint8_t copy[LP586X_RECORD_SIZE], list[LP586X_UPDATE_SIZE];
+    uint32_t n, t, counted, needed;
+
+    memcpy(copy, record, sizeof copy);
+    memcpy(expected.record, record, sizeof expected.record);
+    check(reference_update(copy, sizeof copy, list, sizeof list, &n, &t, &counted, &needed) == 0, "an update is refused");
+    check(take_and_mark(expected.record, list, sent) == stored, "the list has other than %u bytes of data", stored);
+    while (expected.from < expected.to && !sent[expected.from])
+        expected.from++;
+    while (expected.to > expected.from && !sent[expected.to - 1])
+        expected.to--;
+    for (int side = 0; side < 2; side++)
+        expect_three(sides[side], record, &expected);
+}
+
+/* The update has an empty list and stores nothing. */
+static void expect_nothing(const uint8_t *record)
+{
+    memset(sent, 0, sizeof sent);
+    for (int side = 0; side < 2; side++) {
+        struct trial tried = try_read_only(sides[side], record, 4);
+        const struct outcome *out = &tried.outcome;
+
+        check(out->answer == 0 && out->n == 0 && out->t == 0 && out->stored == 0 && out->needed == OUT_UNTOUCHED,
+              "%s, nothing to send: answers %u, %u stored", sides[side]->name, out->answer, out->stored);
+        check(tried.stores == 0, "%s, nothing to send: stores byte %td", sides[side]->name, tried.outside);
+    }
+}
+
+/* The update is refused and stores nothing, but for the length needed. */
+static void expect_refused(const uint8_t *record, size_t buffer_size, uint32_t number, uint32_t needed)
+{
+    memset(sent, 0, sizeof sent);
+    for (int side = 0; side < 2; side++) {
+        struct trial tried = try_read_only(sides[side], record, buffer_size);
+        const struct outcome *out = &tried.outcome;
+
+        check(out->answer == number && out->needed == needed, "%s: answers %u, %u needed", sides[side]->name, out->answer, out->needed);
+        check(out->n == OUT_UNTOUCHED && out->t == OUT_UNTOUCHED && out->stored == OUT_UNTOUCHED,
+              "%s: refused with %u, but stores %u, %u, %u", sides[side]->name, number, out->n, out->t, out->stored);
+        check(tried.stores == 0, "%s: refused with %u, but stores byte %td", sides[side]->name, number, tried.outside);
+    }
+}
+
+/* ---- Records */
+
+static void change(uint8_t *record, uint32_t address)
+{
+    record[SETTINGS + address] ^= (uint8_t)~reference_reserved(record[0], address);
+}
+
+/* A chip that is on and holds its settings. */
+static void start_on(struct world *world, uint32_t member, uint32_t bus)
+{
+    world_open(world, member, bus, bus == LP586X_I2C ? member % 4 : 0);
+    check(world_set(world, REGISTER, 0x000, 0x01, 0) == 0, "chip enable is refused");
+    world_sync(world);
+}
+
+static int four_writable(uint32_t member, uint32_t address)
+{
+    int all = address + 3 < LP586X_REGISTERS;
+
+    for (uint32_t i = 0; i < 4 && all; i++)
+        all = reference_writable(member, address + i);
+    return all;
+}
+
+/* One register, and two that are three apart: the two between them are sent and stored as they are. */
+static void each_address(const struct world *world)
+{
+    for (uint32_t address = 0x001; address < LP586X_REGISTERS; address++) {
+        struct world changed = *world;
+
+        if (!reference_writable(world->record[0], address))
+            continue;
+        change(changed.record, address);
+        expect_stored(changed.record, 1);
+        if (!four_writable(world->record[0], address))
+            continue;
+        change(changed.record, address + 3);
+        expect_stored(changed.record, 4);
+    }
+}
+
+/* Chip enable stands alone; while the settings are off, all others wait. */
+static void on_and_off(const struct world *world)
+{
+    struct world changed = *world;
+
+    expect_nothing(changed.record);
+    changed.record[SETTINGS] = 0;
+    expect_stored(changed.record, 1);
+    for (uint32_t address = 0x001; address < LP586X_REGISTERS; address++)
+        change(changed.record, address);
+    expect_stored(changed.record, 1);
+    changed.record[IMAGE] = 0;
+    expect_nothing(changed.record);
+    changed = *world;
+    changed.record[IMAGE] = 0;
+    expect_stored(changed.record, 1);
+}
+
+/* Any settings over any image. */
+static void any_settings(const struct world *world)
+{
+    static const uint32_t rates[] = {400, 100, 20, 4, 1};
+
+    for (int i = 0; i < ANY_SETTINGS; i++) {
+        struct world changed = *world, after;
+        struct outcome outcome;
+
+        scatter(changed.record[0], changed.record + IMAGE, rates[random_below(5)]);
+        memcpy(changed.record + SETTINGS, changed.record + IMAGE, LP586X_REGISTERS);
+        scatter(changed.record[0], changed.record + SETTINGS, rates[i % 5]);
+        after = changed;
+        outcome = world_list(&after, UPDATE, LP586X_UPDATE_SIZE);
+        if (outcome.n == 0)
+            expect_nothing(changed.record);
+        else
+            expect_stored(changed.record, outcome.stored);
+    }
+}
+
+/* 10 up to the length needed, and 14. */
+static void refused(const struct world *world)
+{
+    struct world changed = *world;
+
+    change(changed.record, 0x001);
+    for (size_t size = 0; size < 9; size++)
+        expect_refused(changed.record, size, LP586X_BUFFER_SHORT, 9);
+    expect_stored(changed.record, 1);
+    changed.record[0] = MEMBERS;
+    expect_refused(changed.record, LP586X_UPDATE_SIZE, LP586X_UNSOUND, OUT_UNTOUCHED);
+    changed = *world;
+    changed.record[IMAGE + 0x064] = 1;
+    expect_refused(changed.record, LP586X_UPDATE_SIZE, LP586X_UNSOUND, OUT_UNTOUCHED);
+}
+
+void group_stores(void)
+{
+    struct world world;
+
+    group("what an update stores");
+    page = (size_t)sysconf(_SC_PAGESIZE);
+    memory = mmap(NULL, 2 * page, PROT_READ | PROT_WRITE, MAP_PRIVATE | MAP_ANONYMOUS, -1, 0);
+    must_do(memory != MAP_FAILED);
+    for (uint32_t member = 0; member < MEMBERS; member++)
+        for (uint32_t bus = LP586X_I2C; bus <= LP586X_SPI; bus++) {
+            start_on(&world, member, bus);
+            each_address(&world);
+            on_and_off(&world);
+            any_settings(&world);
+            refused(&world);
+        }
+    munmap(memory, 2 * page);
+    group_done("");
+}
