@@ -51,17 +51,17 @@ pub(crate) fn updated(updated: Updated, chip: Chip, buffer: &[u8]) -> Stepped
     requires { ⌜ Within (updated .answer) (length (now buffer)) ⌝ }
     ensures { λ r. ⌜ leaving r (now (buffer .entry)) ≡ updateStep updated (now (buffer .entry)) chip ⌝ }
 {
-    let answer = updated.answer;
+    let list = updated.answer;
     let stored = updated.stored;
     let host = updated.host;
-    let after = fed(answer, chip, buffer);
+    let heard = fed(list, chip, buffer);
     let world = World {
         host: host,
-        chip: after,
+        chip: heard,
     };
     Stepped {
         answer: CallAnswer::Update {
-            list: answer,
+            list: list,
             stored: stored,
         },
         world: world,

@@ -18,3 +18,4 @@ pub mod MachineLaws
 pub mod Again
 pub mod Portion
 pub mod PortionLaws
+pub mod PortionExamples
