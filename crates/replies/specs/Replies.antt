@@ -11,7 +11,7 @@ use Rattle.replies.specs.declared.Reply.the-variants.{Bad, Numbers, Lent
 unfoldable pub valueText : ℕ → List ℕ
 valueText v = 0x20 ∷ decimalText v
 
--- the number of an answer and its values: `0 n t`, `10 NEEDED`, `0 O S`, `N`
+-- the number of an answer and its values: `0 n t stored`, `0 n t`, `10 NEEDED`, `0 O S`, `N`
 unfoldable pub numbersText : List ℕ → List ℕ
 numbersText [] = []
 numbersText (n ∷ values) = decimalText n ++ eachText valueText values
@@ -34,7 +34,7 @@ unfoldable pub replyText : Reply → List ℕ → List ℕ
 replyText Bad b = 0x3F ∷ []
 -- "`0` or the refusal number"
 replyText (Numbers n) b = numbersText (numbersIn n)
--- "`0 n t BUFFER`, or `10 NEEDED BUFFER`, or `14 BUFFER`"; "`10 BUFFER`" of a Reset or a Clear;
+-- "`0 n t stored BUFFER`, or `10 NEEDED BUFFER`, or `14 BUFFER`"; "`0 n t BUFFER`" and "`10 BUFFER`" of a Reset or a Clear;
 -- "`0 O S BUFFER` (O, S: 1 if 064h bit 1, bit 0 agrees, else 0), or `N BUFFER`"
 replyText (Lent n) b = numbersText (numbersIn n) ++ lentText b
 -- "1,816 hex digits"

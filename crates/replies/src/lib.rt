@@ -19,7 +19,7 @@ pub enum Reply {
     Bad,
     // the numbers of an answer: `0`, `14`, `0 V W`
     Numbers(Numbers),
-    // they and the buffer: `0 n t BUFFER`, `10 NEEDED BUFFER`, `0 O S BUFFER`, `N BUFFER`
+    // they and the buffer: `0 n t stored BUFFER`, `10 NEEDED BUFFER`, `0 O S BUFFER`, `N BUFFER`
     Lent(Numbers),
     // the bytes alone
     Bytes,

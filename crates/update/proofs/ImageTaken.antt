@@ -66,12 +66,14 @@ module _ (answer : ListAnswer) (header : Header) (settings image lent buffer : L
     within : AllWithin (length image) found
     within = rw (found-are, sound-is r sound .image .size) (update-within r sound)
 
-    pub count-listed : (count : ℕ) → (Begins buffer → AllWithin (length image) found → count ≡ dataBytes found) → count ≡ updateStored r (length lent)
-    count-listed count f = f begins within ∙ ap dataBytes found-are ∙ sym (stored-data r (length lent) n t listed)
+    module _ (count : ℕ) (new : List ℕ) (f : Begins buffer → AllWithin (length image) found → (count ≡ dataBytes found) × (new ≡ storeAll found image)) where
+      pub count-listed : count ≡ updateStored r (length lent)
+      count-listed = f begins within .0 ∙ ap dataBytes found-are ∙ sym (stored-data r (length lent) n t listed)
 
-    pub image-listed : (new : List ℕ) → (Begins buffer → new ≡ storeAll found image) → new ≡ updateOf r (length lent) .host .image
-    image-listed new f =
-        f begins ∙ ap (λ (bs : List Burst). storeAll bs image) found-are ∙ ap (λ (x : Record). x .image) (sym (host-is r (updating r) (length lent) n t listed))
+      pub image-listed : new ≡ updateOf r (length lent) .host .image
+      image-listed =
+          f begins within .1 ∙ ap (λ (bs : List Burst). storeAll bs image) found-are
+          ∙ ap (λ (x : Record). x .image) (sym (host-is r (updating r) (length lent) n t listed))
 
   -- none was
 

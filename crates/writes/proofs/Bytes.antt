@@ -54,8 +54,8 @@ module _ (settings image : List ℕ) (from : ℕ) where
           let z : bitXor x y ≡ 0 = omega (arith, o, and-le-l bits (bitXor x y)) in
           (omega (arith, o, and-le-r bits (bitXor x y)), omega (arith, z, xor-add-and x y, and-le-l x y, and-le-r x y))
 
-  pub block-whole : (i : ℕ) → i ≡ 32 → SameTo settings image from (from + i) → SameTo settings image from (from + 32)
-  block-whole i e s = subst (λ (k : ℕ). SameTo settings image from (from + k)) e s
+  pub block-whole : (i size : ℕ) → i ≡ size → SameTo settings image from (from + i) → SameTo settings image from (from + size)
+  block-whole i size e s = subst (λ (k : ℕ). SameTo settings image from (from + k)) e s
 
   pub found : (a : ℕ) → SameTo settings image from a → (getD settings a 0 ≡ getD image a 0 → ⊥) → FirstDiffering settings image from a
   found a s n = record { to = s; differs = λ h. n }
@@ -135,15 +135,19 @@ module _ (old from : List ℕ) (to start : ℕ) where
       short : length (take i (drop start from)) ≡ i
       short = length-take-le i (drop start from) (omega (arith, inside))
 
-  -- with as many as there are
-  pub copied-done : (len most count i : ℕ) (new : List ℕ) → most ≡ min len (length from - start) → count ≡ min most (length old - to) → i ≡ count →
-      Copied i new → new ≡ sets old to (take len (drop start from))
-  copied-done len most count i new em ec ei c =
+  -- all of them
+  pub copied-all : (len i : ℕ) (new : List ℕ) → i ≡ len → Copied i new → new ≡ sets old to (take len (drop start from))
+  copied-all len i new e c = c .is ∙ ap (λ (k : ℕ). sets old to (take k (drop start from))) e
+
+  -- as many as there are
+  pub copied-most : (len most count : ℕ) (new : List ℕ) → most ≡ min len (length from - start) → count ≡ min most (length old - to) →
+      new ≡ sets old to (take count (drop start from)) → new ≡ sets old to (take len (drop start from))
+  copied-most len most count new em ec e =
       let xs : List ℕ = drop start from in
       let all : take (min len (length from - start)) xs ≡ take len xs =
       take-most len (length from - start) xs ∙ take-all (length from - start) (take len xs) (omega (arith, length-take len xs, length-drop start from)) in
-      c .is
-      ∙ ap (λ (k : ℕ). sets old to (take k xs)) (ei ∙ ec ∙ ap (λ (k : ℕ). min k (length old - to)) em)
+      e
+      ∙ ap (λ (k : ℕ). sets old to (take k xs)) (ec ∙ ap (λ (k : ℕ). min k (length old - to)) em)
       ∙ ap (sets old to) (take-most (min len (length from - start)) (length old - to) xs)
       ∙ clipped (take (min len (length from - start)) xs) old to
       ∙ ap (sets old to) all

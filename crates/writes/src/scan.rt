@@ -39,38 +39,38 @@ pub fn may_write(kinds: &[u8], matrix: Matrix, address: usize) -> bool
     mask < 255
 }
 
-// So many bytes are compared at once where nothing differs.
+// So many bytes are compared at once where nothing differs, and so many in the block that has the difference.
 const BLOCK: usize = 32;
 
-// The last address at which so many begin.
-const LAST_BLOCK: usize = 876;
+const PART: usize = 4;
 
-// Whether the BLOCK bytes from `from` on are the same in both. The bits are gathered with no early return, so that many bytes are taken
+// Whether the `size` bytes from `from` on are the same in both. The bits are gathered with no early return, so that many bytes are taken
 // at once.
-fn same_block<'a>(settings: &'a [u8], image: &'a [u8], from: usize) -> bool
-    requires { ⌜ (length (now settings) ≡ 908) × (length (now image) ≡ 908) × (from + 32 ≤ 908) ⌝ }
-    ensures { λ r. ⌜ (r ≡ true → SameTo (now (settings .entry)) (now (image .entry)) from (from + 32)) ⌝ }
+fn same_block<'a>(settings: &'a [u8], image: &'a [u8], from: usize, size: usize) -> bool
+    requires { ⌜ (length (now settings) ≡ 908) × (length (now image) ≡ 908) × (from + size ≤ 908) ⌝ }
+    ensures { λ r. ⌜ (r ≡ true → SameTo (now (settings .entry)) (now (image .entry)) from (from + size)) ⌝ }
 {
     let mut bits: u8 = 0;
     let mut i: usize = 0;
-    while i < BLOCK {
+    while i < size {
         bits |= settings[from + i] ^ image[from + i];
         i += 1;
     }
     bits == 0
 }
 
-// The address behind the blocks of same bytes from `from` on.
-fn past_same<'a>(settings: &'a [u8], image: &'a [u8], from: usize) -> usize
-    requires { ⌜ (length (now settings) ≡ 908) × (length (now image) ≡ 908) ⌝ }
+// The address behind the blocks of `size` same bytes from `from` on.
+fn past_same<'a>(settings: &'a [u8], image: &'a [u8], from: usize, size: usize) -> usize
+    requires { ⌜ (length (now settings) ≡ 908) × (length (now image) ≡ 908) × (0 < size) × (size ≤ 908) ⌝ }
     ensures { λ r. ⌜ SameTo (now (settings .entry)) (now (image .entry)) from r ⌝ }
 {
+    let last = 908 - size;
     let mut a = from;
-    while a <= LAST_BLOCK {
-        if !same_block(settings, image, a) {
+    while a <= last {
+        if !same_block(settings, image, a, size) {
             return a;
         }
-        a += BLOCK;
+        a += size;
     }
     a
 }
@@ -80,7 +80,8 @@ fn first_differing<'a>(settings: &'a [u8], image: &'a [u8], from: usize) -> usiz
     requires { ⌜ (length (now settings) ≡ 908) × (length (now image) ≡ 908) ⌝ }
     ensures { λ r. ⌜ FirstDiffering (now (settings .entry)) (now (image .entry)) from r ⌝ }
 {
-    let mut a = past_same(settings, image, from);
+    let block = past_same(settings, image, from, BLOCK);
+    let mut a = past_same(settings, image, block, PART);
     while a < 908 {
         if settings[a] != image[a] {
             return a;

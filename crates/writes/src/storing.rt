@@ -8,43 +8,40 @@ ghost use Rattle.burst.specs.Burst.{burstOf, transactions, dataBytes};
 ghost use Rattle.burst.specs.FrontLaws.{Begins};
 ghost use Rattle.plan.specs.Update.{storeAll};
 ghost use Rattle.writes.specs.Stored.{Within, AllWithin};
-use crate::writer::copy;
+use crate::writer::store;
 
-// The data bytes of the transaction of `size` bytes at `from`. It answers how many it stored.
+// The data bytes of the transaction of `size` bytes at `from`. It answers how many it stored: none where the list or the image ends before.
 fn store_transaction(image: &mut [u8], bus: u8, list: &[u8], from: usize, size: usize) -> usize
-    requires { ⌜ from < 8589934592 ⌝ }
+    requires { ⌜ (from < 8589934592) × (size < 65536) ⌝ }
     ensures { λ r. ⌜ r ≤ size ⌝ }
     ensures { λ r. ⌜
         (3 ≤ size → from + size ≤ length (now (list .entry)) → Within (length (now (image .entry))) (burstOf bus (take size (drop from (now (list .entry))))) →
-        r ≡ length (burstOf bus (take size (drop from (now (list .entry)))) .bytes))
-        ⌝ }
-    ensures { λ _. ⌜
-        (3 ≤ size → from + size ≤ length (now (list .entry)) →
-        now (image .exit) ≡
+        (r ≡ length (burstOf bus (take size (drop from (now (list .entry)))) .bytes))
+        × (now (image .exit) ≡
         sets (now (image .entry)) (burstOf bus (take size (drop from (now (list .entry)))) .start)
-        (burstOf bus (take size (drop from (now (list .entry)))) .bytes))
+        (burstOf bus (take size (drop from (now (list .entry)))) .bytes)))
         ⌝ }
 {
     if size < 3 {
         return 0;
     }
-    let data = from + 2;
-    if list.len() < data {
+    if list.len() < from + size {
         return 0;
     }
     let address = burst::head_address(bus, list[from], list[from + 1]);
-    copy(image, address, list, data, size - 2)
+    let len = size - 2;
+    if image.len() < address + len {
+        return 0;
+    }
+    store(image, address, list, from + 2, len)
 }
 
 // The data bytes of every transaction of the list at the front of these bytes. It answers how many it stored.
 pub fn store_list(image: &mut [u8], bus: u8, list: &[u8]) -> usize
     ensures { λ r. ⌜
         (Begins (now (list .entry)) → AllWithin (length (now (image .entry))) (map (burstOf bus) (transactions (now (list .entry)))) →
-        r ≡ dataBytes (map (burstOf bus) (transactions (now (list .entry)))))
-        ⌝ }
-    ensures { λ _. ⌜
-        (Begins (now (list .entry)) →
-        now (image .exit) ≡ storeAll (map (burstOf bus) (transactions (now (list .entry)))) (now (image .entry)))
+        (r ≡ dataBytes (map (burstOf bus) (transactions (now (list .entry)))))
+        × (now (image .exit) ≡ storeAll (map (burstOf bus) (transactions (now (list .entry)))) (now (image .entry))))
         ⌝ }
 {
     let n = burst::size_at(list, 0);

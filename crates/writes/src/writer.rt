@@ -1,7 +1,7 @@
 // The writer: what stands in a list, piece by piece.
 ghost use mathlib.Core.Path.{_≡_};
 ghost use mathlib.Core.List.{_++_};
-ghost use Prim.Native.Nat.{_+_, _-_, _*_, min};
+ghost use Prim.Native.Nat.{_+_, _-_, _*_, _<_, _≤_, min};
 ghost use lib.ListN.{length, take, drop};
 ghost use lib.Seq.{sets};
 ghost use Rattle.burst.specs.Burst.{sizeBytes, putSize, transactionOf};
@@ -22,19 +22,26 @@ fn room(size: usize, at: usize, len: usize) -> usize
     len
 }
 
-// `len` bytes of `from`, from `start` on, go to the places of `to` from `at` on. What lies behind either end is left out. It answers how
-// many bytes it stored, counted as it stores them.
-pub fn copy(to: &mut [u8], at: usize, from: &[u8], start: usize, len: usize) -> usize
-    ensures { λ r. ⌜ r ≡ min (min len (length (now (from .entry)) - start)) (length (now (to .entry)) - at) ⌝ }
+// `len` bytes of `from`, from `start` on, go to the places of `to` from `at` on. It answers how many, counted as they are stored.
+pub(crate) fn store(to: &mut [u8], at: usize, from: &[u8], start: usize, len: usize) -> usize
+    requires { ⌜ (0 < len → (at + len ≤ length (now to)) × (start + len ≤ length (now from))) ⌝ }
+    ensures { λ r. ⌜ r ≡ len ⌝ }
     ensures { λ _. ⌜ now (to .exit) ≡ sets (now (to .entry)) at (take len (drop start (now (from .entry)))) ⌝ }
 {
-    let count = room(to.len(), at, room(from.len(), start, len));
     let mut i: usize = 0;
-    while i < count {
+    while i < len {
         to[at + i] = from[start + i];
         i += 1;
     }
     i
+}
+
+// The same of bytes and places that may not all be there: what lies behind either end is left out.
+pub fn copy(to: &mut [u8], at: usize, from: &[u8], start: usize, len: usize)
+    ensures { λ _. ⌜ now (to .exit) ≡ sets (now (to .entry)) at (take len (drop start (now (from .entry)))) ⌝ }
+{
+    let count = room(to.len(), at, room(from.len(), start, len));
+    store(to, at, from, start, count);
 }
 
 // One transaction at a place: the head, and the settings' bytes from `start` on. What lies behind the buffer's end is left out.

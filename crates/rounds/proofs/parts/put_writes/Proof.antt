@@ -67,7 +67,7 @@ loop-again c =
     let sent = copied .before .before .before .before in
     let sized = sent .before .before .before .before in
     putting-more _ _ _ _ _ _ (s .pre .0 .sound) (s .pre .3) _ _ _ _ _ _ (c .before .before .before .before .before .before .before .before .before .before .before .before .before .before .before .loop .inv) (c .before .before .before .before .before .before .before .before .before .before .before .before .before .if1 .taken) _ _ _ refl (n .0) (n .1) _ _ _
-    (sized .put-length .ensures) (sent .put-transaction .ensures) (copied .copy .ensures .1)
+    (sized .put-length .ensures) (sent .put-transaction .ensures) (copied .copy .ensures)
 
 same-length : tie.Need-same-length Inv-loop μ-loop
 same-length c = c .before .before .loop .inv .put .size

@@ -37,7 +37,7 @@ returns c =
     let copied = c .before .before .before .before in
     let told = copied .before .before .before .before in
     let a = told .before .before .before .before .before .args in
-    i2c-put (a .answer) (a .header) (a .i2c .now) (a .spi .now) (a .buffer .now) (ap isListed (told .enum-told .given .1)) _ (copied .copy .ensures .1) (copied .before .before .if1 .taken)
+    i2c-put (a .answer) (a .header) (a .i2c .now) (a .spi .now) (a .buffer .now) (ap isListed (told .enum-told .given .1)) _ (copied .copy .ensures) (copied .before .before .if1 .taken)
 
 copy-requires-2 : tie.Need-copy-requires-2
 copy-requires-2 c κs = search needs
@@ -56,7 +56,7 @@ returns-2 c =
     let copied = c .before .before in
     let told = copied .before .before .before .before in
     let a = told .before .before .before .before .before .args in
-    spi-put (a .answer) (a .header) (a .i2c .now) (a .spi .now) (a .buffer .now) (ap isListed (told .enum-told .given .1)) _ (copied .copy2 .ensures .1) (copied .before .before .if1 .left)
+    spi-put (a .answer) (a .header) (a .i2c .now) (a .spi .now) (a .buffer .now) (ap isListed (told .enum-told .given .1)) _ (copied .copy2 .ensures) (copied .before .before .if1 .left)
 
 returns-3 : tie.Need-returns-3
 returns-3 c = let a = c .before .before .before .before .before .args in nothing-put (a .answer) (a .header) (a .i2c .now) (a .spi .now) (a .buffer .now) (ap isListed (c .enum-told2 .given .1))

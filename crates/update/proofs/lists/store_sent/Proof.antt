@@ -26,7 +26,7 @@ returns : tie.Need-returns
 returns c =
     let put = c .before .before in
     let told = put .before .before .enum-told .given .1 in
-    ((λ settings lent u. count-listed _ _ _ _ _ _ u _ _ told _ (put .store-list .ensures .0)), (λ settings lent u. image-listed _ _ _ _ _ _ u _ _ told _ (put .store-list .ensures .1)))
+    ((λ settings lent u. count-listed _ _ _ _ _ _ u _ _ told _ _ (put .store-list .ensures)), (λ settings lent u. image-listed _ _ _ _ _ _ u _ _ told _ _ (put .store-list .ensures)))
 
 returns-2 : tie.Need-returns-2
 returns-2 c =

@@ -3,22 +3,25 @@
 use native.Mathlib.Omega.{arith}
 use Prim.Native.Nat.{_-_}
 use Rattle.writes.specs.Found.{SameTo}
-use Rattle.writes.proofs.Bytes.{same-more, found, none-found}
+use Rattle.writes.proofs.Bytes.{same-join, same-more, found, none-found}
 use borrow.Author.Needs.{needs}
 use Rattle.writes.proofs.scan.first_differing.Statement.{statement}
 use Rattle.writes.proofs.scan.first_differing.Tie as tie
 
 abbrev Inv-loop : tie.InvT-loop
-Inv-loop settings image from a₀ a = SameTo settings image from a
+Inv-loop settings image from block a₀ a = SameTo settings image from a
 
 abbrev μ-loop : tie.MeasureT-loop
-μ-loop settings image from a₀ a = 908 - a
+μ-loop settings image from block a₀ a = 908 - a
 
 past-same-requires : tie.Need-past-same-requires Inv-loop μ-loop
 past-same-requires c κs = search needs
 
+past-same-requires-2 : tie.Need-past-same-requires-2 Inv-loop μ-loop
+past-same-requires-2 c κs = search needs
+
 loop-holds : tie.Need-loop-holds Inv-loop μ-loop
-loop-holds c = c .past-same .ensures
+loop-holds c = same-join _ _ _ _ _ (c .before .past-same .ensures) (c .past-same2 .ensures)
 
 shared-slice-read-if1 : tie.Need-shared-slice-read-if1 Inv-loop μ-loop
 shared-slice-read-if1 c = omega arith
@@ -48,6 +51,7 @@ first-differing-spec =
     Inv-loop
     μ-loop
     past-same-requires
+    past-same-requires-2
     loop-holds
     shared-slice-read-if1
     shared-slice-read-if1-2

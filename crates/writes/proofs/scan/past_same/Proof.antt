@@ -10,10 +10,13 @@ use Rattle.writes.proofs.scan.past_same.Statement.{statement}
 use Rattle.writes.proofs.scan.past_same.Tie as tie
 
 abbrev Inv-loop : tie.InvT-loop
-Inv-loop settings image from a₀ a = SameTo settings image from a
+Inv-loop settings image from size last a₀ a = SameTo settings image from a
 
 abbrev μ-loop : tie.MeasureT-loop
-μ-loop settings image from a₀ a = 908 - a
+μ-loop settings image from size last a₀ a = 908 - a
+
+sub-last : tie.Need-sub-last Inv-loop μ-loop
+sub-last c = search needs
 
 loop-holds : tie.Need-loop-holds Inv-loop μ-loop
 loop-holds c = same-none _ _ _
@@ -42,6 +45,7 @@ past-same-spec =
     (tie.spec
     Inv-loop
     μ-loop
+    sub-last
     loop-holds
     same-block-requires
     returns

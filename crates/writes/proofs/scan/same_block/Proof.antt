@@ -10,10 +10,10 @@ use Rattle.writes.proofs.scan.same_block.Statement.{statement}
 use Rattle.writes.proofs.scan.same_block.Tie as tie
 
 abbrev Inv-loop : tie.InvT-loop
-Inv-loop settings image from bits₀ i₀ bits i = (i ≤ 32) × (bits ≡ 0 → SameTo settings image from (from + i))
+Inv-loop settings image from size bits₀ i₀ bits i = (i ≤ size) × (bits ≡ 0 → SameTo settings image from (from + i))
 
 abbrev μ-loop : tie.MeasureT-loop
-μ-loop settings image from bits₀ i₀ bits i = 32 - i
+μ-loop settings image from size bits₀ i₀ bits i = size - i
 
 loop-holds : tie.Need-loop-holds Inv-loop μ-loop
 loop-holds c = (omega arith, λ e. block-none _ _ _)
@@ -40,7 +40,7 @@ loop-again : tie.Need-loop-again Inv-loop μ-loop
 loop-again c = let l = c .before .before .before .loop in (omega arith, block-more _ _ _ (l .i) _ (l .inv .1))
 
 returns : tie.Need-returns Inv-loop μ-loop
-returns c = λ e. block-whole _ _ _ (c .before .loop .i) (omega arith) (c .before .loop .inv .1 (eqb-true _ 0 e))
+returns c = λ e. block-whole _ _ _ (c .before .loop .i) _ (omega arith) (c .before .loop .inv .1 (eqb-true _ 0 e))
 
 pub same-block-spec : {M : Type 1} → statement M
 same-block-spec =

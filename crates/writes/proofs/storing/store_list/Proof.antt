@@ -3,7 +3,7 @@
 use Prim.Native.Nat.{_-_}
 use native.Mathlib.Omega.{arith}
 use Rattle.burst.specs.BurstLaws.{size-read}
-use Rattle.writes.proofs.ListStored.{Storing, storing-none, place-small, storing-more, all-counted, all-stored}
+use Rattle.writes.proofs.ListStored.{Storing, storing-none, place-small, storing-more, all-stored}
 use borrow.Author.Needs.{needs}
 use Rattle.writes.proofs.storing.store_list.Statement.{statement}
 use Rattle.writes.proofs.storing.store_list.Tie as tie
@@ -36,7 +36,11 @@ size-at-requires-2 : tie.Need-size-at-requires-2 Inv-loop μ-loop
 size-at-requires-2 c κs = search needs
 
 store-transaction-requires : tie.Need-store-transaction-requires Inv-loop μ-loop
-store-transaction-requires c κs = place-small _ _ _ _ _ _ _ _ (c .before .before .before .loop .inv) (c .before .before .loop-test .taken) _ (c .before .size-at2 .ensures)
+store-transaction-requires c κs =
+    let looped = c .before .before .before .loop .inv in
+    let tested = c .before .before .loop-test .taken in
+    let sized = c .before .size-at2 .ensures in
+    (place-small _ _ _ _ _ _ _ _ looped tested _ sized, size-read _ _ _ sized)
 
 add-stored : tie.Need-add-stored Inv-loop μ-loop
 add-stored c = omega (arith, c .before .before .before .before .before .before .loop .inv .most, c .before .before .before .before .before .before .loop .inv .few, c .before .before .store-transaction .ensures .0, size-read _ _ _ (c .before .before .before .before .size-at2 .ensures))
@@ -57,15 +61,13 @@ loop-again c =
     let tested = sized .before in
     let looped = tested .before in
     storing-more _ _ _ _ _ _ _ _ (looped .loop .inv) (tested .loop-test .taken) _ (sized .size-at2 .ensures) _ _ (put .store-transaction .kept .0)
-    (put .store-transaction .ensures .0) (put .store-transaction .ensures .1 .0) (put .store-transaction .ensures .1 .1)
+    (put .store-transaction .ensures .0) (put .store-transaction .ensures .1)
 
 same-length : tie.Need-same-length Inv-loop μ-loop
 same-length c = c .before .loop .inv .same
 
 returns : tie.Need-returns Inv-loop μ-loop
-returns c =
-    let s = c .before .loop .inv in
-    (all-counted _ _ _ _ _ _ _ _ s (c .loop-test .left), all-stored _ _ _ _ _ _ _ _ s (c .loop-test .left))
+returns c = all-stored _ _ _ _ _ _ _ _ (c .before .loop .inv) (c .loop-test .left)
 
 pub store-list-spec : {M : Type 1} → statement M
 store-list-spec =

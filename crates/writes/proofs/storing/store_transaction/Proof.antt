@@ -1,19 +1,19 @@
 -- `writes::storing::store_transaction` meets its contract.
 -- Assumes nothing.
 use native.Mathlib.Omega.{arith}
-use Rattle.writes.proofs.ListStored.{one-stored, one-counted}
+use Rattle.writes.proofs.ListStored.{address-small, one-within, one-counted, one-stored}
 use borrow.Author.Needs.{needs}
 use Rattle.writes.proofs.storing.store_transaction.Statement.{statement}
 use Rattle.writes.proofs.storing.store_transaction.Tie as tie
 
 returns : tie.Need-returns
-returns c = (omega arith, ((λ three. absurd (omega arith)), (λ three. absurd (omega arith))))
+returns c = (omega arith, λ three. absurd (omega arith))
 
-add-data : tie.Need-add-data
-add-data c = search needs
+add-if2 : tie.Need-add-if2
+add-if2 c = search needs
 
 returns-2 : tie.Need-returns-2
-returns-2 c = (omega arith, ((λ three inside. absurd (omega arith)), (λ three inside. absurd (omega arith))))
+returns-2 c = (omega arith, λ three inside. absurd (omega arith))
 
 shared-slice-read-head-address : tie.Need-shared-slice-read-head-address
 shared-slice-read-head-address c = search needs
@@ -27,24 +27,38 @@ shared-slice-read-head-address-2 c = search needs
 head-address-requires : tie.Need-head-address-requires
 head-address-requires c κs = search needs
 
-sub-copy : tie.Need-sub-copy
-sub-copy c = search needs
+sub-len : tie.Need-sub-len
+sub-len c = search needs
 
-copy-requires : tie.Need-copy-requires
-copy-requires c κs = search needs
+add-if3 : tie.Need-add-if3
+add-if3 c = omega (arith, address-small _ _ _ _ (c .head-address .ensures))
+
+returns-3 : tie.Need-returns-3
+returns-3 c =
+    let found = c .before in
+    let a = found .before .before .before .before .before .before .before .args in
+    let address = found .head-address .ensures in
+    (omega arith, λ three inside within. absurd (omega (arith, one-within (a .bus) (a .from) (a .size) (a .list .now) (a .image .now) three inside _ address within)))
+
+add-store : tie.Need-add-store
+add-store c = search needs
+
+store-requires : tie.Need-store-requires
+store-requires c κs = search needs
 
 same-length : tie.Need-same-length
 same-length c = search needs
 
-returns-3 : tie.Need-returns-3
-returns-3 c =
-    let copied = c .before .before in
-    let found = copied .before .before in
-    let a = found .before .before .before .before .before .before .before .args in (
-      omega (arith, copied .copy .ensures .0),
-      (
-        (λ three inside within. one-counted (a .bus) (a .from) (a .size) (a .list .now) (a .image .now) three inside _ (found .head-address .ensures) _ (copied .copy .ensures .0) within),
-        (λ three inside. one-stored (a .bus) (a .from) (a .size) (a .list .now) (a .image .now) three inside _ (found .head-address .ensures) _ (copied .copy .ensures .1)),
+returns-4 : tie.Need-returns-4
+returns-4 c =
+    let put = c .before .before in
+    let found = put .before .before .before in
+    let a = found .before .before .before .before .before .before .before .args in
+    let address = found .head-address .ensures in (
+      omega (arith, put .store .ensures .0),
+      λ three inside within. (
+        one-counted (a .bus) (a .from) (a .size) (a .list .now) (a .image .now) three inside _ address _ (put .store .ensures .0),
+        one-stored (a .bus) (a .from) (a .size) (a .list .now) (a .image .now) three inside _ address _ (put .store .ensures .1),
       ),
     )
 
@@ -53,13 +67,16 @@ store-transaction-spec =
     tie.close
     (tie.spec
     returns
-    add-data
+    add-if2
     returns-2
     shared-slice-read-head-address
     add-head-address
     shared-slice-read-head-address-2
     head-address-requires
-    sub-copy
-    copy-requires
+    sub-len
+    add-if3
+    returns-3
+    add-store
+    store-requires
     same-length
-    returns-3)
+    returns-4)

@@ -1,71 +1,26 @@
 -- `writes::writer::copy` meets its contract.
 -- Assumes nothing.
-use native.Mathlib.Omega.{arith}
-use Prim.Native.Nat.{_-_, _≤_}
-use Rattle.writes.proofs.Bytes.{Copied, copied-none, copied-more, copied-done}
+use Rattle.writes.proofs.Bytes.{copied-most}
 use borrow.Author.Needs.{needs}
 use Rattle.writes.proofs.writer.copy.Statement.{statement}
 use Rattle.writes.proofs.writer.copy.Tie as tie
 
-abbrev Inv-loop : tie.InvT-loop
-Inv-loop to₀ at from start len count i₀ to i = (i ≤ count) × Copied to₀ from at start i to
-
-abbrev μ-loop : tie.MeasureT-loop
-μ-loop to₀ at from start len count i₀ to i = count - i
-
-room-requires : tie.Need-room-requires Inv-loop μ-loop
+room-requires : tie.Need-room-requires
 room-requires c κs = search needs
 
-room-requires-2 : tie.Need-room-requires-2 Inv-loop μ-loop
+room-requires-2 : tie.Need-room-requires-2
 room-requires-2 c κs = search needs
 
-loop-holds : tie.Need-loop-holds Inv-loop μ-loop
-loop-holds c = (omega arith, copied-none _ _ _ _)
+store-requires : tie.Need-store-requires
+store-requires c κs = search needs
 
-add-to : tie.Need-add-to Inv-loop μ-loop
-add-to c = omega arith
+same-length : tie.Need-same-length
+same-length c = search needs
 
-shared-slice-read-to : tie.Need-shared-slice-read-to Inv-loop μ-loop
-shared-slice-read-to c = omega arith
-
-add-to-2 : tie.Need-add-to-2 Inv-loop μ-loop
-add-to-2 c = omega arith
-
-slice-write-to : tie.Need-slice-write-to Inv-loop μ-loop
-slice-write-to c = omega (arith, c .before .before .loop .inv .1 .size)
-
-add-i : tie.Need-add-i Inv-loop μ-loop
-add-i c = omega arith
-
-loop-less : tie.Need-loop-less Inv-loop μ-loop
-loop-less c = omega arith
-
-loop-again : tie.Need-loop-again Inv-loop μ-loop
-loop-again c = (omega arith, copied-more _ _ _ _ (c .before .before .loop .i) _ (omega arith) (c .before .before .loop .inv .1))
-
-same-length : tie.Need-same-length Inv-loop μ-loop
-same-length c = c .before .loop .inv .1 .size
-
-returns : tie.Need-returns Inv-loop μ-loop
+returns : tie.Need-returns
 returns c =
-    let most = c .before .before .before .room .ensures in
-    (omega arith, copied-done _ _ _ _ _ _ _ _ _ most (c .before .before .room2 .ensures) (omega arith) (c .before .loop .inv .1))
+    let a = c .before .before .before .before .before .before .before .before .args in
+    copied-most (a .to .now) (a .from .now) (a .at) (a .start) _ _ _ _ (c .before .before .before .before .before .room .ensures) (c .before .before .before .before .room2 .ensures) (c .before .before .store .ensures .1)
 
 pub copy-spec : {M : Type 1} → statement M
-copy-spec =
-    tie.close
-    (tie.spec
-    Inv-loop
-    μ-loop
-    room-requires
-    room-requires-2
-    loop-holds
-    add-to
-    shared-slice-read-to
-    add-to-2
-    slice-write-to
-    add-i
-    loop-less
-    loop-again
-    same-length
-    returns)
+copy-spec = tie.close (tie.spec room-requires room-requires-2 store-requires same-length returns)

@@ -44,7 +44,7 @@ copy-requires c κs = search needs
 same-length-2 : tie.Need-same-length-2
 same-length-2 c =
     let a = c .before .before .before .before .before .before .before .before .before .before .args in
-    transaction-size (a .buffer .now) _ (a .settings .now) (a .at) (a .start) (a .len) _ _ (c .before .before .copy .ensures .1)
+    transaction-size (a .buffer .now) _ (a .settings .now) (a .at) (a .start) (a .len) _ _ (c .before .before .copy .ensures)
 
 returns-3 : tie.Need-returns-3
 returns-3 c =
@@ -54,7 +54,7 @@ returns-3 c =
     let entered = first .before .before .before .before in
     let a = entered .args in
     put-all (a .buffer .now) (a .settings .now) (a .at) (a .header .bus) (a .header .pins) (a .start) (a .len) _ _ _
-    (first .head-first .ensures) (second .head-second .ensures) (copied .copy .ensures .1)
+    (first .head-first .ensures) (second .head-second .ensures) (copied .copy .ensures)
 
 pub put-transaction-spec : {M : Type 1} → statement M
 put-transaction-spec =
