@@ -1,13 +1,13 @@
 -- A list at the front of a longer buffer: its sizes and its transactions read as they do in the list alone.
 -- Assumes nothing.
-use mathlib.Core.Path.{_≡_, refl, sym, ap, ap₂, _∙_}
+use mathlib.Core.Path.{_≡_, refl, ap, ap₂, _∙_}
 use mathlib.Core.Bool.{true}
 use mathlib.Core.List.{List, [], _∷_, _++_}
 use Prim.Native.Nat.{ℕ, zero, suc, _+_, _*_, _≤_, _<_}
 use native.Mathlib.Omega.{arith}
 use lib.ListN.{length, getD, take, drop, length-append, length-drop}
 use lib.Seq.{take-append-le, drop-append-le}
-use Rattle.burst.specs.Burst.{byteAt, size16, nOf, tOf, lengthsFrom, lengths, cutFrom, transactions, sum, allAtLeast3, sizesGood}
+use Rattle.burst.specs.Burst.{byteAt, size16, nOf, lengthsFrom, lengths, cutFrom, transactions, sum, allAtLeast3, sizesGood}
 use Rattle.burst.specs.BurstLaws.{good-sizes}
 
 -- The first bytes of l are a list: each length is 3 or more, and the transactions end within l.

@@ -3,14 +3,12 @@
 -- Assumes nothing.
 use mathlib.Core.Path.{_≡_, refl, sym, _∙_}
 use mathlib.Core.Bool.{true}
-use mathlib.Core.List.{List, [], _∷_, map}
+use mathlib.Core.List.{List, [], _∷_}
 use Prim.Native.Nat.{ℕ}
-use native.Mathlib.Omega.{arith}
 use Rattle.map.specs.Map.{writableOf}
 use Rattle.map.specs.ImageLaws.{Fit, Registers}
 use Rattle.burst.specs.Burst.{Burst}
-use Rattle.burst.specs.BurstLaws.{AllData, AllNamed}
-use Rattle.plan.specs.Writes.{Good, AllGood}
+use Rattle.plan.specs.Writes.{Good}
 use Rattle.plan.specs.Update.{valueAt, writeOf}
 use Rattle.plan.specs.Machine.{Machine, feedBy}
 use Rattle.host.specs.declared.Header.{Header}

@@ -12,8 +12,6 @@ use Rattle.map.specs.declared.refusals.Refusal.the-variants.{BufferShort, Unsou
 use Rattle.burst.specs.Burst.{Burst, busBytes}
 use Rattle.burst.specs.BurstLaws.{AllData, AllNamed, and-left, and-right}
 use Rattle.plan.specs.Lists.{All}
-use Rattle.plan.specs.Writes.{AllGood}
-use Rattle.plan.specs.Update.{writeOf}
 use Rattle.plan.specs.Portion.{portion, Begins}
 use Rattle.plan.specs.PortionLaws.{portion-empty, portion-bytes, portion-begins, portion-more, begins-good}
 use Rattle.host.specs.declared.Record.{Record}

@@ -6,14 +6,14 @@ use mathlib.Core.List.{List, _++_, map, append-assoc}
 use Prim.Native.Nat.{ℕ, _+_, _-_, _*_, _%_, _≤_, _<_}
 use native.Mathlib.Omega.{arith}
 use borrow.Author.Tests.{eq-eqb, ne-eqb}
-use lib.ListN.{length, getD, take, drop, length-append, length-map}
+use lib.ListN.{length, getD, length-append, length-map}
 use lib.Seq.{sets, take-length, length-take-le}
 use Rattle.map.specs.declared.refusals.Refusal.the-variants.{Unsound}
-use Rattle.burst.specs.Burst.{Burst, sizeBytes, sizesBytes, busBytes, putSize, transactionOf, encode}
+use Rattle.burst.specs.Burst.{sizeBytes, sizesBytes, busBytes, putSize, transactionOf, encode}
 use Rattle.burst.specs.BurstLaws.{encode-length}
 use Rattle.plan.specs.Plan.{Write, cost, plan}
 use Rattle.plan.specs.WriteLaws.{cost-append}
-use Rattle.plan.specs.Update.{valueAt, onBy, dataOf, storeAll}
+use Rattle.plan.specs.Update.{valueAt, onBy, dataOf}
 use Rattle.host.specs.declared.Header.{Header}
 use Rattle.host.specs.declared.Record.{Record}
 use Rattle.host.specs.Record.{recordOf, soundOf}
@@ -21,11 +21,11 @@ use Rattle.host.specs.SoundLaws.{Sound, sound-is}
 use Rattle.writes.specs.declared.scan.Matrix.{Matrix}
 use Rattle.writes.specs.Marks.{chipView, marksOf, matrixOf}
 use Rattle.writes.specs.Found.{Small, Counted}
-use Rattle.writes.specs.Written.{transactionLengths, transactionBytes, storeWrites, writesBytes}
-use Rattle.writes.specs.WrittenLaws.{Inside, sets-behind, sets-comm, sets-front, lengths-append, lengths-size, bytes-append, bytes-one, bytes-size, stores-append, writes-cost, list-written}
+use Rattle.writes.specs.Written.{transactionLengths, transactionBytes, writesBytes}
+use Rattle.writes.specs.WrittenLaws.{Inside, sets-behind, sets-comm, sets-front, lengths-append, lengths-size, bytes-append, bytes-one, bytes-size, writes-cost, list-written}
 use Rattle.update.specs.declared.ListAnswer.{ListAnswer}
 use Rattle.update.specs.declared.ListAnswer.the-variants.{Listed, Short, Refused}
-use Rattle.update.specs.Update.{listSize, writesOf, updating, updateAnswer, updateOf, updateBuffer}
+use Rattle.update.specs.Update.{listSize, writesOf, updating, updateAnswer, updateBuffer}
 use Rattle.update.specs.SendLaws.{Leaves, send-unsound, send-short, send-listed}
 use Rattle.update.specs.Pieces.{enableCount, enableWrites, planCount, planned, pending, ListSizes}
 use Rattle.update.specs.PieceLaws.{enable-length, enable-cost, enable-inside, pending-inside, writes-are}

@@ -9,7 +9,7 @@ use native.Mathlib.Omega.{arith}
 use borrow.Author.Tests.{leb-true}
 use lib.Dec.{leb}
 use lib.ListN.{length, getD, take, drop, length-drop}
-use lib.Seq.{sets, length-sets, length-take-le}
+use lib.Seq.{sets, length-take-le}
 use Rattle.burst.specs.Burst.{Burst, size16, nOf, lengthsFrom, lengths, cutFrom, transactions, sum, allAtLeast3, headAddress, burstOf, dataBytes}
 use Rattle.burst.specs.BurstLaws.{and-left, and-right, size-small, lengths-none, lengths-step, head-address-small}
 use Rattle.burst.specs.PlaceLaws.{burst-at}

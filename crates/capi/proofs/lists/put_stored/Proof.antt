@@ -1,6 +1,5 @@
 -- `capi::lists::put_stored` meets its contract.
 -- Assumes nothing.
-use native.Mathlib.Omega.{arith}
 use Rattle.capi.proofs.Listed.{stored-listed, stored-short, stored-refused}
 use borrow.Author.Needs.{needs}
 use Rattle.capi.proofs.lists.put_stored.Statement.{statement}
