@@ -200,7 +200,7 @@ nAfter answer old = valueAfter 0 1 (listNumbers answer) old
 abbrev pub tAfter : ListAnswer → ℕ → ℕ
 tAfter answer old = valueAfter 0 2 (listNumbers answer) old
 
--- "0 of lp586x_update also stores how many bytes of the chip image it stored", count
+-- "0 stores n, t and stored": stored, of an update that stored `count` bytes
 abbrev pub storedAfter : ListAnswer → ℕ → ℕ → ℕ
 storedAfter answer count old = valueAfter 0 3 (updateNumbers answer count) old
 

@@ -3,7 +3,7 @@
 use mathlib.Core.Path.{_≡_, refl, sym, ap, subst, _∙_}
 use mathlib.Core.Bool.{true}
 use mathlib.Core.List.{List, [], _∷_, map}
-use Prim.Native.Nat.{ℕ, _+_, _-_, _*_, _≤_, _<_}
+use Prim.Native.Nat.{ℕ, _+_, _-_, _*_, _^_, _≤_, _<_}
 use native.Mathlib.Nat.{sub-zero}
 use native.Mathlib.Omega.{arith}
 use borrow.Author.Tests.{leb-true}
@@ -80,7 +80,7 @@ module _ (bus : ℕ) (old l : List ℕ) where
   }
 
   module _ (n : ℕ) (image : List ℕ) (stored from i : ℕ) (s : Storing n image stored from i) (h : i < n) (k : ℕ) (e : k ≡ size16 l (4 + 2 * i)) where
-    pub place-small : from < 8589934592
+    pub place-small : from < 2 ^ 33
     place-small = omega (arith, s .few, s .place)
 
     pub size-most : k ≤ 65535

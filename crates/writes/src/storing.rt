@@ -1,7 +1,7 @@
 // Storing: an image takes the data bytes of a list at their addresses, and nothing else of it changes.
 ghost use mathlib.Core.Path.{_≡_};
 ghost use mathlib.Core.List.{map};
-ghost use Prim.Native.Nat.{_+_, _≤_, _<_};
+ghost use Prim.Native.Nat.{_+_, _^_, _≤_, _<_};
 ghost use lib.ListN.{length, take, drop};
 ghost use lib.Seq.{sets};
 ghost use Rattle.burst.specs.Burst.{burstOf, transactions, dataBytes};
@@ -11,8 +11,9 @@ ghost use Rattle.writes.specs.Stored.{Within, AllWithin};
 use crate::writer::store;
 
 // The data bytes of the transaction of `size` bytes at `from`. It answers how many it stored: none where the list or the image ends before.
+// (A list has fewer than 2 ^ 16 transactions, each of fewer than 2 ^ 16 bytes.)
 fn store_transaction(image: &mut [u8], bus: u8, list: &[u8], from: usize, size: usize) -> usize
-    requires { ⌜ (from < 8589934592) × (size < 65536) ⌝ }
+    requires { ⌜ (from < 2 ^ 33) × (size < 2 ^ 16) ⌝ }
     ensures { λ r. ⌜ r ≤ size ⌝ }
     ensures { λ r. ⌜
         (3 ≤ size → from + size ≤ length (now (list .entry)) → Within (length (now (image .entry))) (burstOf bus (take size (drop from (now (list .entry))))) →
