@@ -8,6 +8,7 @@
 #include <stdio.h>
 
 #include "../tests/c/reference.h"
+#include "cases.h"
 #include "cues.h"
 #include "lp586x.h"
 
@@ -32,7 +33,7 @@ static struct cost stretches(const uint8_t *chosen, uint32_t limit)
 
 static struct cost other_way(const struct panel *panel, int whole_map, uint32_t limit)
 {
-    const uint8_t *settings = panel->record + 3, *image = settings + LP586X_REGISTERS;
+    const uint8_t *settings = panel->record + SETTINGS, *image = settings + LP586X_REGISTERS;
     uint8_t chosen[LP586X_REGISTERS];
     int enable = settings[0] != image[0];
     struct cost cost;

@@ -58,6 +58,12 @@ static void change_one_lamp(struct situation *s)
     set_lamp(s->record, 19, 0x1234);
 }
 
+static void change_one_lamp_locked(struct situation *s)
+{
+    must(lp586x_lock(s->record, sizeof s->record));
+    change_one_lamp(s);
+}
+
 /* Four such records, on I2C whatever the table. */
 static void open_four(struct situation *s)
 {
@@ -97,7 +103,7 @@ static void change_all(struct situation *s)
 {
     for (uint32_t address = 0; address < LP586X_REGISTERS; address++)
         for (uint32_t bit = 0; bit < 8; bit++)
-            if (lp586x_register(s->record, sizeof s->record, address, s->chip[3 + address] ^ 1u << bit) == 0)
+            if (lp586x_register(s->record, sizeof s->record, address, s->chip[CHIP_REGISTERS + address] ^ 1u << bit) == 0)
                 break;
     lose_power(s);
 }
@@ -192,6 +198,11 @@ static uint32_t call_power_lost(const struct interface *calls, struct situation 
     return calls->power_lost(s->record, sizeof s->record);
 }
 
+static uint32_t call_lock(const struct interface *calls, struct situation *s)
+{
+    return calls->lock(s->record, sizeof s->record);
+}
+
 static uint32_t call_update(const struct interface *calls, struct situation *s)
 {
     return calls->update(s->record, sizeof s->record, s->buffer, sizeof s->buffer, &s->n, &s->t, &s->stored, &s->needed);
@@ -267,6 +278,8 @@ const struct bench_case cases[] = {
     {"Feed, list of one lamp", list_one_lamp, call_feed},
     {"Feed, list after a power loss, all lit", list_all_lit, call_feed},
     {"Feed, list of the full update", list_all_registers, call_feed},
+    {"Lock", as_it_is, call_lock},
+    {"Update of a locked record, one lamp", change_one_lamp_locked, call_update},
 };
 
 const int case_count = sizeof cases / sizeof *cases;

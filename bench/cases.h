@@ -10,6 +10,9 @@
 
 enum { SCENE_ENTRIES = 50, PLACES = 4 };
 
+/* Where the settings begin in a record, and the registers in a chip: the images stand last in either. */
+enum { SETTINGS = LP586X_RECORD_SIZE - 2 * LP586X_REGISTERS, CHIP_REGISTERS = LP586X_CHIP_SIZE - LP586X_REGISTERS };
+
 struct situation {
     uint32_t member;
     uint8_t record[LP586X_RECORD_SIZE];

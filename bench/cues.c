@@ -34,7 +34,7 @@ struct cost panel_update(struct panel *panel)
 
     must(lp586x_update(panel->record, sizeof panel->record, list, sizeof list, &cost.writes, &cost.bytes, &stored, &needed));
     must(lp586x_chip_feed(panel->chip, sizeof panel->chip, list, 4 + 2 * cost.writes + cost.bytes));
-    if (memcmp(panel->chip + 3, panel->record + 3, LP586X_REGISTERS) != 0)
+    if (memcmp(panel->chip + CHIP_REGISTERS, panel->record + SETTINGS, LP586X_REGISTERS) != 0)
         fail("the chip does not hold the settings");
     return cost;
 }

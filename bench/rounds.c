@@ -50,7 +50,7 @@ static uint32_t rounds_needed(struct panel *panels, uint32_t limit)
     while (take_round(panels, records, limit) > 0)
         rounds++;
     for (uint32_t place = 0; place < PLACES; place++)
-        if (memcmp(panels[place].chip + 3, panels[place].record + 3, LP586X_REGISTERS) != 0)
+        if (memcmp(panels[place].chip + CHIP_REGISTERS, panels[place].record + SETTINGS, LP586X_REGISTERS) != 0)
             fail("a chip does not hold the settings");
     return rounds;
 }

@@ -12,6 +12,9 @@
 
 #include "lp586x.h"
 
+/* Where the settings begin in a record, and the registers in a chip: the images stand last in either. */
+enum { SETTINGS = LP586X_RECORD_SIZE - 2 * LP586X_REGISTERS, CHIP_REGISTERS = LP586X_CHIP_SIZE - LP586X_REGISTERS };
+
 struct panel {
     uint8_t record[LP586X_RECORD_SIZE], copy[LP586X_RECORD_SIZE], chip[LP586X_CHIP_SIZE], list[LP586X_UPDATE_SIZE];
     uint32_t n, t;
@@ -122,7 +125,7 @@ static enum verdict verdict(const struct panel *panel)
     enum verdict verdict = AS_SET;
 
     for (uint32_t address = 0; address < LP586X_REGISTERS; address++)
-        if (panel->chip[3 + address] != panel->record[3 + address]) {
+        if (panel->chip[CHIP_REGISTERS + address] != panel->record[SETTINGS + address]) {
             printf(verdict == AS_SET ? "stale: %03Xh" : " %03Xh", address);
             verdict = STALE;
         }

@@ -8,6 +8,7 @@
  *    9 length of a scene   10 buffer too short      11 sizes of a list do not add up
  *   13 fault bytes not 67  14 unsound record or chip, or its size is wrong
  *   15 limit of a round    16 record on SPI, or its pins are not its place
+ *   17 register locked     18 not lockable: locked already, chip off, or 003h or 004h not as set
  *   26 no such transaction
  * A call checks in the order in which its refusals stand below. A refused call changes no byte that was lent to it, n, t and stored
  * among them; 10 of lp586x_update alone stores the length needed.
@@ -24,10 +25,11 @@
  * Targets: x86-64 with the System V calling convention; the toolchain writes code for no other. A port needs a back end of Rattle for its
  * target and a size_t of 64 bits, which the promises take for granted. Byte order is no matter: numbers are taken apart byte by byte.
  *
- * Bytes of a record: member, bus, pins, 908 settings, 908 of the chip as the host believes it. Of a chip: member, bus, pins, 908
- * registers. They are the driver's to change. They are sound if lp586x_open takes the member, bus and pins, and reserved bits and addresses
- * that are not writable hold their reset values; a chip's fault bytes 064h to 0A6h may hold anything. Where 14 stands with "(size)" below,
- * the size alone is tested.
+ * Bytes of a record: member, bus, pins, marks, 908 settings, 908 of the chip as the host believes it (the chip image). Of a chip: member,
+ * bus, pins, 908 registers. They are the driver's to change. They are sound if lp586x_open takes the member, bus and pins, and reserved
+ * bits and addresses that are not writable hold their reset values; a chip's fault bytes 064h to 0A6h may hold anything. The marks of a
+ * record are 0, free, or 1, locked (lp586x_lock). With any other value it is unsound, and so is a locked record whose settings and chip
+ * image differ at 003h or 004h. Where 14 stands with "(size)" below, the size alone is tested.
  */
 #ifndef LP586X_H
 #define LP586X_H
@@ -39,8 +41,8 @@
 extern "C" {
 #endif
 
-#define LP586X_VERSION "4.0.0"
-#define LP586X_VERSION_MAJOR 4
+#define LP586X_VERSION "5.0.0"
+#define LP586X_VERSION_MAJOR 5
 #define LP586X_VERSION_MINOR 0
 #define LP586X_VERSION_PATCH 0
 
@@ -70,9 +72,11 @@ extern "C" {
 #define LP586X_UNSOUND 14u
 #define LP586X_ROUND_LIMIT 15u
 #define LP586X_WRONG_PLACE 16u
+#define LP586X_LOCKED 17u
+#define LP586X_NOT_LOCKABLE 18u
 #define LP586X_NO_TRANSACTION 26u
 
-#define LP586X_RECORD_SIZE 1819u
+#define LP586X_RECORD_SIZE 1820u
 #define LP586X_CHIP_SIZE 911u
 #define LP586X_REGISTERS 908u
 /* Four records back to back, for lp586x_round. */
@@ -93,12 +97,12 @@ extern "C" {
 /* ---- The record and its settings */
 
 /* A new record: member 0 LP5860, 1 LP5861T, 2 LP5864, 3 LP5867, 4 LP5868T; bus 0 I2C with the chip's two address pins, 1 SPI with pins 0.
- * Settings and chip image start at the member's reset values: nothing lights before 000h is 01h. The pins are 2 x ADDR1 + ADDR0.
- * 14 (size), 1, 2, 3.
+ * Settings and chip image start at the member's reset values: nothing lights before 000h is 01h. The pins are 2 x ADDR1 + ADDR0. The
+ * record is not locked. 14 (size), 1, 2, 3.
  * Changes record, not null. */
 uint32_t lp586x_open(uint8_t *record, size_t record_size, uint32_t member, uint32_t bus, uint32_t pins);
 
-/* One whole register of the settings. 14, 4, 5 (a value above 255 too).
+/* One whole register of the settings. 14, 4, 17 (003h or 004h of a locked record), 5 (a value above 255 too).
  * Changes record, not null. */
 uint32_t lp586x_register(uint8_t *record, size_t record_size, uint32_t address, uint32_t value);
 
@@ -120,9 +124,18 @@ uint32_t lp586x_switch(uint8_t *record, size_t record_size, uint32_t line, uint3
  * Changes record, reads scene, neither null. */
 uint32_t lp586x_scene(uint8_t *record, size_t record_size, const uint8_t *scene, size_t scene_size);
 
-/* The chip has lost its power: it holds its reset values. The settings are kept, so that the next update sends them. 14.
+/* The chip has lost its power: it holds its reset values. The settings are kept, so that the next update sends them. A locked record is
+ * free again. 14.
  * Changes record, not null. */
 uint32_t lp586x_power_lost(uint8_t *record, size_t record_size);
+
+/* Locks 003h and 004h, which are trimmed to each panel: set them, send an update, then lock the record. As long as it is locked,
+ * lp586x_register answers 17 for these two, whatever the value, and no write goes to them or across them. An accepted lp586x_reset or
+ * lp586x_power_lost frees the record: the settings keep the trim, the next update sends it, and then the record can be locked again. A new
+ * record is free, and no other call changes the marks. 14, 18 (the record is locked already, or bit 0 of 000h is clear in the chip image,
+ * or settings and chip image differ at 003h or 004h).
+ * Changes record, of it the marks alone, not null. */
+uint32_t lp586x_lock(uint8_t *record, size_t record_size);
 
 /* ---- Lists of bus writes
  *
@@ -143,15 +156,17 @@ uint32_t lp586x_power_lost(uint8_t *record, size_t record_size);
  * lp586x_power_lost does not do: a register whose setting is its reset value would keep what it has. See examples/bus_failure.c. */
 
 /* The shortest list that brings the chip to the settings; t is at most 702. While the settings have the chip off (000h bit 0 clear), it
- * only turns the chip off, and other settings wait. Into the record it copies nothing but the bytes that it sends: stored is how many
+ * only turns the chip off, and other settings wait. No write runs across a register that is locked (lp586x_lock): n is then at most one
+ * more than that of the free record, and t is the same. Into the record it copies nothing but the bytes that it sends: stored is how many
  * bytes of the chip image it has stored, the data bytes of the list, t - 2n. 0 stores n, t and stored; 10 stores the length needed.
  * 14, 10 (buffer under 4 + 2n + t).
  * Changes record, buffer, n, t, stored and needed, none null. */
 uint32_t lp586x_update(uint8_t *record, size_t record_size, uint8_t *buffer, size_t buffer_size, uint32_t *n, uint32_t *t,
                        uint32_t *stored, uint32_t *needed);
 
-/* Every register of the chip to its reset value; the settings are kept, so that the next update sends them. 0 stores n and t.
- * Once its list was sent whole, the record is right again, whatever the chip had heard of lists before. 14, 10 (buffer under 9).
+/* Every register of the chip to its reset value; the settings are kept, so that the next update sends them. A locked record is free again.
+ * 0 stores n and t. Once its list was sent whole, the record is right again, whatever the chip had heard of lists before.
+ * 14, 10 (buffer under 9).
  * Changes record, buffer, n and t, none null. */
 uint32_t lp586x_reset(uint8_t *record, size_t record_size, uint8_t *buffer, size_t buffer_size, uint32_t *n, uint32_t *t);
 

@@ -1,4 +1,5 @@
-/* The header from C++: a record is opened, gets a lamp and is updated, and the last transaction is found; four records get a round. */
+/* The header from C++: a record is opened, gets a lamp, is updated and locked, and the last transaction is found; four records get a
+ * round. */
 #include "lp586x.h"
 
 #include <algorithm>
@@ -49,6 +50,9 @@ void group_cplusplus(void)
     check(equal, "other list bytes");
     check(lp586x_transaction(buffer.data(), expected.size(), 2, &offset, &length) == 0, "transaction");
     check(offset == 16 && length == 3, "%u bytes at %u", length, offset);
+    check(lp586x_lock(record.data(), record.size()) == LP586X_OK, "lock");
+    check(lp586x_lock(record.data(), record.size()) == LP586X_NOT_LOCKABLE, "lock, once more");
+    check(lp586x_register(record.data(), record.size(), 0x003, 0x00) == LP586X_LOCKED, "register 003h");
     four_records();
     group_done("");
 }

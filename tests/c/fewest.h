@@ -8,6 +8,7 @@ struct cost {
     uint32_t bytes, writes;
 };
 
-struct cost fewest(uint32_t member, const uint8_t *settings, const uint8_t *image);
+/* Of a locked record no list may write to 003h or 004h. */
+struct cost fewest(uint32_t member, int locked, const uint8_t *settings, const uint8_t *image);
 
 #endif

@@ -19,6 +19,7 @@ void group_heads(void);
 void group_chip(void);
 void group_transactions(void);
 void group_stores(void);
+void group_locks(void);
 void group_faults(void);
 void group_histories(uint64_t seed);
 void group_rounds(uint64_t seed);

@@ -1,8 +1,9 @@
 /* Random histories. In each a record is opened and gets several hundred calls, with wrong arguments, short buffers and scenes with
- * duplicates among them; every accepted list is fed to its chip. A ledger is kept from the calls alone: the settings must equal it
- * after every call, and the chip's writable registers after every update that has the chip on. The transactions of every accepted
- * list are found one by one. Beside the history, and without touching it, calls are made on damaged records and chips, and a second
- * chip is fed random and damaged lists.
+ * duplicates among them; every accepted list is fed to its chip. A ledger is kept from the calls alone, and from whether a Register was
+ * answered 17: the settings must equal it after every call, and the chip's writable registers after every update that has the chip on.
+ * 003h and 004h are trimmed, the record is locked and released, and the same update of the unlocked record must have as many bytes. The
+ * transactions of every accepted list are found one by one. Beside the history, and without touching it, calls are made on damaged
+ * records and chips, and a second chip is fed random and damaged lists.
  */
 #include <inttypes.h>
 #include <stdio.h>
@@ -25,6 +26,7 @@ struct history {
     uint32_t member, bus, pins;
     struct world world;
     struct ledger ledger;
+    int locked;        /* by the calls that were accepted */
     struct world wild; /* a chip that is fed anything */
     uint32_t near;     /* a dot number: lamps come in neighbourhoods, so that updates have neighbours to join */
 };
@@ -32,6 +34,55 @@ struct history {
 static unsigned long seen[KINDS][ANSWERS];
 static unsigned long readings_seen[WIDTHS][256];
 static unsigned long ledger_compared;
+
+/* ---- What was met of locks */
+
+enum event {
+    LOCKED_NOW,
+    LOCKED_BEFORE,
+    LOCKED_OFF,
+    LOCKED_003_DIFFERS,
+    LOCKED_004_DIFFERS,
+    HELD_003,
+    HELD_004,
+    HELD_RESERVED,
+    RESET_RELEASES,
+    POWER_LOST_RELEASES,
+    RESET_REFUSED,
+    UPDATE_LOCKED,
+    UPDATE_PARTED,
+    OFF_LOCKED,
+    TRIM_SENT_AGAIN,
+    EVENTS
+};
+
+static const struct {
+    const char *name;
+    unsigned long least;
+} events[EVENTS] = {
+    [LOCKED_NOW] = {"records locked", 1000},
+    [LOCKED_BEFORE] = {"locked records that were to be locked", 1000},
+    [LOCKED_OFF] = {"records that were to be locked with a chip that is off", 200},
+    [LOCKED_003_DIFFERS] = {"records that were to be locked and differed at 003h alone", 300},
+    [LOCKED_004_DIFFERS] = {"records that were to be locked and differed at 004h alone", 300},
+    [HELD_003] = {"Registers on a locked 003h", 1000},
+    [HELD_004] = {"Registers on a locked 004h", 1000},
+    [HELD_RESERVED] = {"Registers on a locked address with a value that would be refused with 5", 100},
+    [RESET_RELEASES] = {"locks released by a reset", 400},
+    [POWER_LOST_RELEASES] = {"locks released by a power loss", 400},
+    [RESET_REFUSED] = {"locks that a refused reset did not release", 500},
+    [UPDATE_LOCKED] = {"updates of locked records", 10000},
+    [UPDATE_PARTED] = {"updates of locked records with a write more than unlocked", 1000},
+    [OFF_LOCKED] = {"locked records whose chip was turned off", 500},
+    [TRIM_SENT_AGAIN] = {"updates that sent 003h or 004h", 5000},
+};
+
+static unsigned long met[EVENTS];
+
+static void note(enum event event, int happened)
+{
+    met[event] += happened != 0;
+}
 
 static uint32_t note_answer(enum kind kind, uint32_t answer)
 {
@@ -95,6 +146,8 @@ static uint32_t some_address(const struct history *history)
 
     if (one_in(3))
         return one_in(2) ? 0x000 : 0x001;
+    if (one_in(4))
+        return 0x002 + random_below(5);
     if (one_in(12))
         return one_in(2) ? random_below(1100) : any_number();
     do
@@ -108,7 +161,7 @@ static uint32_t some_value(const struct history *history, uint32_t address)
 {
     uint32_t reserved;
 
-    if (address >= LP586X_REGISTERS || one_in(20))
+    if (address >= LP586X_REGISTERS || one_in(is_trim(address) ? 5 : 20))
         return one_in(3) ? any_number() : random_below(256);
     if (address == 0x000)
         return !one_in(4);
@@ -254,14 +307,64 @@ static void check_settings(const struct history *history)
 {
     check(memcmp(history->world.record + SETTINGS, history->ledger.bytes, LP586X_REGISTERS) == 0,
           "the settings are not what the ledger holds");
+    check(history->world.record[MARKS] == history->locked, "the record has marks %u, but should have %d", history->world.record[MARKS],
+          history->locked);
+}
+
+/* Whether the reserved bits of the address, or its eight bits, do not take the value. */
+static int has_wrong_bits(uint32_t member, uint32_t address, uint32_t value)
+{
+    return value > 255 || ((value ^ reference_reset_value(member, address)) & reference_reserved(member, address));
+}
+
+static void set_register(struct history *history, uint32_t address)
+{
+    uint32_t value = some_value(history, address);
+    uint32_t answer = note_answer(REGISTER, world_set(&history->world, REGISTER, address, value, 0));
+    int held = history->locked && is_trim(address);
+
+    check((answer == LP586X_LOCKED) == held, "register %03X of a record with marks %d answers %u", address, history->locked, answer);
+    ledger_register(&history->ledger, address, value, answer == LP586X_LOCKED);
+    note(HELD_003, held && address == 0x003);
+    note(HELD_004, held && address == 0x004);
+    note(HELD_RESERVED, held && has_wrong_bits(history->member, address, value));
 }
 
 static void set_one(struct history *history)
 {
-    uint32_t address = some_address(history), value = some_value(history, address);
+    set_register(history, some_address(history));
+}
 
-    note_answer(REGISTER, world_set(&history->world, REGISTER, address, value, 0));
-    ledger_register(&history->ledger, address, value);
+/* A cue on both sides of the trim, and on it. */
+static void set_around_trim(struct history *history)
+{
+    for (uint32_t address = 0x001; address <= 0x006; address++)
+        if (one_in(2))
+            set_register(history, address);
+}
+
+/* "locking a locked record, or one whose chip image is off or differs from the settings at 003h or 004h"; now and then with a trim that no
+ * update has sent. */
+static void lock(struct history *history)
+{
+    const uint8_t *settings = history->world.record + SETTINGS, *image = history->world.record + IMAGE;
+    int off, differs_3, differs_4, refused;
+    uint32_t answer;
+
+    if (one_in(3))
+        set_register(history, 0x003 + random_below(2));
+    off = !(image[0x000] & 1);
+    differs_3 = settings[0x003] != image[0x003];
+    differs_4 = settings[0x004] != image[0x004];
+    refused = history->locked || off || differs_3 || differs_4;
+    note(LOCKED_BEFORE, history->locked && !off);
+    note(LOCKED_OFF, off && !history->locked && !differs_3 && !differs_4);
+    note(LOCKED_003_DIFFERS, differs_3 && !differs_4 && !off);
+    note(LOCKED_004_DIFFERS, differs_4 && !differs_3 && !off);
+    answer = note_answer(LOCK, world_set(&history->world, LOCK, 0, 0, 0));
+    check(answer == (refused ? LP586X_NOT_LOCKABLE : LP586X_OK), "locking answers %u", answer);
+    note(LOCKED_NOW, answer == 0);
+    history->locked |= answer == 0;
 }
 
 static void set_dot(struct history *history, enum kind kind)
@@ -317,13 +420,35 @@ static void check_chip(const struct history *history)
     ledger_compared++;
 }
 
+/* An update of the same record, not locked: as many bytes, and one write fewer just where one goes across 003h and 004h. */
+static void check_unlocked(uint32_t n, uint32_t t, const uint8_t *before)
+{
+    const uint8_t *settings = before + SETTINGS, *image = before + IMAGE;
+    int across = (settings[0x000] & 1) && settings[0x002] != image[0x002] && settings[0x005] != image[0x005];
+    struct world unlocked;
+    struct outcome outcome;
+
+    memcpy(unlocked.record, before, sizeof unlocked.record);
+    unlocked.record[MARKS] = FREE;
+    outcome = world_list(&unlocked, UPDATE, LP586X_UPDATE_SIZE);
+    check(outcome.answer == 0 && outcome.t == t, "unlocked it answers %u, and t is %u, not %u", outcome.answer, outcome.t, t);
+    check(n == outcome.n + across, "n is %u, and %u unlocked", n, outcome.n);
+    note(UPDATE_LOCKED, 1);
+    note(UPDATE_PARTED, across);
+}
+
+/* The outcome is that of an update whose list was read: the buffer holds another one afterwards. */
 static void check_cost(const struct outcome *outcome, const uint8_t *before)
 {
-    struct cost cost = fewest(before[0], before + SETTINGS, before + IMAGE);
+    struct cost cost = fewest(before[0], before[MARKS] == LOCKED, before + SETTINGS, before + IMAGE);
 
     check(outcome->t == cost.bytes && outcome->n == cost.writes, "n is %u and t is %u, but %u and %u would do", outcome->n,
           outcome->t, cost.writes, cost.bytes);
     check(outcome->t <= 702, "t is %u", outcome->t);
+    note(OFF_LOCKED, before[MARKS] == LOCKED && (before[IMAGE] & 1) && !(before[SETTINGS] & 1));
+    note(TRIM_SENT_AGAIN, (before[SETTINGS] & 1) && memcmp(before + SETTINGS + 0x003, before + IMAGE + 0x003, 2) != 0);
+    if (before[MARKS] == LOCKED)
+        check_unlocked(outcome->n, outcome->t, before);
 }
 
 static void update(struct history *history)
@@ -335,8 +460,8 @@ static void update(struct history *history)
     outcome = world_list(&history->world, UPDATE, some_buffer_size());
     if (note_answer(UPDATE, outcome.answer) != 0)
         return;
-    check_cost(&outcome, before);
     feed_answer(history, &outcome);
+    check_cost(&outcome, before);
     if (ledger_wants_on(&history->ledger))
         check_chip(history);
 }
@@ -345,14 +470,22 @@ static void command(struct history *history, enum kind kind)
 {
     struct outcome outcome = world_list(&history->world, kind, random_below(16));
 
-    if (note_answer(kind, outcome.answer) == 0)
-        feed_answer(history, &outcome);
+    note(RESET_REFUSED, kind == RESET && history->locked && outcome.answer != 0);
+    if (note_answer(kind, outcome.answer) != 0)
+        return;
+    feed_answer(history, &outcome);
+    if (kind == RESET) {
+        note(RESET_RELEASES, history->locked);
+        history->locked = 0;
+    }
 }
 
 static void lose_power(struct history *history)
 {
-    note_answer(POWER_LOST, world_set(&history->world, POWER_LOST, 0, 0, 0));
+    check(note_answer(POWER_LOST, world_set(&history->world, POWER_LOST, 0, 0, 0)) == 0, "a power loss is refused");
     note_answer(CHIP_POWER_LOST, world_chip_power_lost(&history->world));
+    note(POWER_LOST_RELEASES, history->locked);
+    history->locked = 0;
 }
 
 /* ---- Calls beside the history */
@@ -378,13 +511,24 @@ static void find_transaction(const struct history *history)
     note_answer(TRANSACTION, both(&call).answer);
 }
 
+/* A byte of the head, marks among them, one that a record has for 003h or 004h, or any. */
+static uint32_t some_place(size_t size)
+{
+    static const uint32_t trims[] = {SETTINGS + 0x003, SETTINGS + 0x004, IMAGE + 0x003, IMAGE + 0x004};
+    uint32_t trim = trims[random_below(4)];
+
+    if (one_in(4))
+        return random_below(4);
+    return one_in(4) && trim < size ? trim : random_below((uint32_t)size);
+}
+
 /* Some bytes are changed, or the size is wrong, or both. */
 static void damage(uint8_t *state, size_t *size)
 {
     uint32_t times = random_below(4);
 
     for (uint32_t i = 0; i < times; i++) {
-        uint32_t at = one_in(4) ? random_below(3) : random_below((uint32_t)*size);
+        uint32_t at = some_place(*size);
 
         state[at] = one_in(2) ? (uint8_t)(state[at] ^ 1 << random_below(8)) : (uint8_t)random_bits();
     }
@@ -434,13 +578,16 @@ static void call_on_damaged(struct history *history)
     note_answer(call.kind, both(&call).answer);
 }
 
-/* Any images in a sound record. */
+/* Any images in a sound record, which is locked or not. */
 static void scatter_both(uint8_t *record)
 {
     static const uint32_t rates[] = {200, 20, 5, 2, 1};
 
     scatter(record[0], record + IMAGE, rates[random_below(5)]);
     scatter(record[0], record + SETTINGS, rates[random_below(5)]);
+    record[MARKS] = one_in(2) ? LOCKED : FREE;
+    if (record[MARKS] == LOCKED)
+        trims_from_image(record);
 }
 
 /* On the history's record, or on one with any images. */
@@ -475,8 +622,8 @@ static void update_any_images(const struct history *history)
     check(note_answer(UPDATE, outcome.answer) == 0, "an update of a sound record is refused with %u", outcome.answer);
     if (outcome.answer != 0)
         return;
-    check_cost(&outcome, before);
     feed_answer(&other, &outcome);
+    check_cost(&outcome, before);
     check(memcmp(other.world.chip + CHIP_REGISTERS, other.world.record + IMAGE, LP586X_REGISTERS) == 0,
           "the chip is not what the record believes");
     if (before[SETTINGS] & 1)
@@ -490,8 +637,12 @@ static void one_call(struct history *history)
 {
     uint32_t choice = random_below(100);
 
-    if (choice < 14)
+    if (choice < 11)
         set_one(history);
+    else if (choice < 14)
+        set_around_trim(history);
+    else if (choice < 17)
+        lock(history);
     else if (choice < 36)
         set_dot(history, LAMP);
     else if (choice < 43)
@@ -527,6 +678,7 @@ static void start(struct history *history)
     history->bus = one_in(3);
     history->pins = history->bus == 0 ? random_below(4) : 0;
     history->near = 0;
+    history->locked = 0;
     world_open(&history->world, history->member, history->bus, history->pins);
     world_open(&history->wild, history->member, history->bus, history->pins);
     ledger_start(&history->ledger, history->member);
@@ -545,12 +697,13 @@ static void run_history(unsigned long first_call)
 /* The refusals that each call can give. */
 static const uint8_t refusals[KINDS][5] = {
     [OPEN] = {14, 1, 2, 3},
-    [REGISTER] = {14, 4, 5},
+    [REGISTER] = {14, 4, 17, 5},
     [LAMP] = {14, 6, 7},
     [GROUP] = {14, 6, 8},
     [SWITCH] = {14, 6, 8},
     [SCENE] = {14, 9, 6, 7},
     [POWER_LOST] = {14},
+    [LOCK] = {14, 18},
     [UPDATE] = {14, 10},
     [RESET] = {14, 10},
     [CLEAR] = {14, 10},
@@ -561,7 +714,8 @@ static const uint8_t refusals[KINDS][5] = {
     [TRANSACTION] = {11, 26},
 };
 
-/* Each was given, and each call was accepted, and nothing else was answered. Faults gave each reading in both widths. */
+/* Each was given, and each call was accepted, and nothing else was answered. Faults gave each reading in both widths. Locks met all that
+ * they can meet. */
 static void check_all_seen(void)
 {
     for (uint32_t kind = 0; kind < KINDS; kind++) {
@@ -580,12 +734,14 @@ static void check_all_seen(void)
     for (uint32_t width = 0; width < WIDTHS; width++)
         for (uint32_t reading = 0; reading <= LAST_READING; reading++)
             check(readings_seen[width][reading] > 0, "no dot of %u bits read %u", 8 + 8 * width, reading);
+    for (int i = 0; i < EVENTS; i++)
+        check(met[i] >= events[i].least, "%lu %s", met[i], events[i].name);
 }
 
 void group_histories(uint64_t seed)
 {
     unsigned long first = calls_made(), histories = 0;
-    char note[160], place[40];
+    char text[200], place[40];
 
     group("random histories");
     random_seed(seed);
@@ -596,7 +752,7 @@ void group_histories(uint64_t seed)
     }
     context("");
     check_all_seen();
-    snprintf(note, sizeof note, "seed %" PRIu64 ", %lu calls in %lu histories, %lu chips compared with a ledger", seed,
-             calls_made() - first, histories, ledger_compared);
-    group_done(note);
+    snprintf(text, sizeof text, "seed %" PRIu64 ", %lu calls in %lu histories, %lu chips compared with a ledger, %lu locks", seed,
+             calls_made() - first, histories, ledger_compared, met[LOCKED_NOW]);
+    group_done(text);
 }

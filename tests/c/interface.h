@@ -14,6 +14,7 @@ struct interface {
     uint32_t (*set_switch)(uint8_t *record, size_t record_size, uint32_t line, uint32_t sink, uint32_t state);
     uint32_t (*scene)(uint8_t *record, size_t record_size, const uint8_t *scene, size_t scene_size);
     uint32_t (*power_lost)(uint8_t *record, size_t record_size);
+    uint32_t (*lock)(uint8_t *record, size_t record_size);
     uint32_t (*update)(uint8_t *record, size_t record_size, uint8_t *buffer, size_t buffer_size, uint32_t *n, uint32_t *t,
                        uint32_t *stored, uint32_t *needed);
     uint32_t (*reset)(uint8_t *record, size_t record_size, uint8_t *buffer, size_t buffer_size, uint32_t *n, uint32_t *t);

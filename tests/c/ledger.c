@@ -9,11 +9,12 @@ void ledger_start(struct ledger *ledger, uint32_t member)
         ledger->bytes[address] = reference_reset_value(member, address);
 }
 
-void ledger_register(struct ledger *ledger, uint32_t address, uint32_t value)
+/* "the ledger is told of each 17, of no other answer, and such a Register changes nothing there" */
+void ledger_register(struct ledger *ledger, uint32_t address, uint32_t value, int answered_17)
 {
     uint32_t member = ledger->member;
 
-    if (address >= LP586X_REGISTERS || value > 255 || !reference_writable(member, address))
+    if (answered_17 || address >= LP586X_REGISTERS || value > 255 || !reference_writable(member, address))
         return;
     if ((value & reference_reserved(member, address)) ==
         (uint32_t)(reference_reset_value(member, address) & reference_reserved(member, address)))

@@ -1,4 +1,5 @@
-/* Document 01's ledger: what the calls asked for, kept from their arguments alone and never from an answer. */
+/* Document 01's ledger: what the calls asked for, kept from their arguments alone. Of the answers it is told one thing, whether a Register
+ * was answered 17; it never sees a record. */
 #ifndef LEDGER_H
 #define LEDGER_H
 
@@ -13,7 +14,7 @@ struct ledger {
 };
 
 void ledger_start(struct ledger *ledger, uint32_t member);
-void ledger_register(struct ledger *ledger, uint32_t address, uint32_t value);
+void ledger_register(struct ledger *ledger, uint32_t address, uint32_t value, int answered_17);
 void ledger_lamp(struct ledger *ledger, uint32_t line, uint32_t sink, uint32_t level);
 void ledger_group(struct ledger *ledger, uint32_t line, uint32_t sink, uint32_t group);
 void ledger_switch(struct ledger *ledger, uint32_t line, uint32_t sink, uint32_t state);

@@ -26,6 +26,7 @@ int main(int count, char **arguments)
     group_chip();
     group_transactions();
     group_stores();
+    group_locks();
     group_faults();
     group_cplusplus();
     group_histories(strtoull(arguments[2], NULL, 0));

@@ -30,21 +30,23 @@ void group_registers(void)
     group_done("");
 }
 
-/* One bit at a time is changed in a record or a chip, and the call must refuse it with 14 exactly where the bit is reserved. */
+/* One bit at a time is changed in a record or a chip, and the call must refuse it with 14 exactly where the bit is reserved, or where the
+ * record is locked and the bit stands at 003h or 004h. */
 static void flip_each_bit(struct call call, uint32_t member, size_t registers, int faults_are_free)
 {
     static uint8_t state[LP586X_RECORD_SIZE];
+    int locked = call.state_size == LP586X_RECORD_SIZE && call.state[MARKS] == LOCKED;
 
     memcpy(state, call.state, call.state_size);
     call.state = state;
     for (uint32_t address = 0; address < LP586X_REGISTERS; address++) {
-        int free = faults_are_free && address >= 0x064 && address <= 0x0A6;
+        int free = faults_are_free && address >= 0x064 && address <= 0x0A6, held = locked && is_trim(address);
 
         for (uint32_t bit = 0; bit < 8; bit++) {
             int reserved = reference_reserved(member, address) >> bit & 1;
 
             state[registers + address] ^= (uint8_t)(1 << bit);
-            check(both(&call).answer == (reserved && !free ? 14 : 0), "member %u, %03X, bit %u", member, address, bit);
+            check(both(&call).answer == ((reserved && !free) || held ? 14 : 0), "member %u, %03X, bit %u", member, address, bit);
             state[registers + address] ^= (uint8_t)(1 << bit);
         }
     }
@@ -65,6 +67,11 @@ void group_soundness(void)
         flip_each_bit(record_call(&world, GROUP, 0, 0, 0), member, SETTINGS, 0);
         flip_each_bit(record_call(&world, POWER_LOST, 0, 0, 0), member, IMAGE, 0);
         flip_each_bit(feed_call(&world, nothing, 4), member, CHIP_REGISTERS, 1);
+        world_locked(&world, member, 1, 0);
+        flip_each_bit(faults, member, SETTINGS, 0);
+        flip_each_bit(faults, member, IMAGE, 0);
+        flip_each_bit(record_call(&world, GROUP, 0, 0, 0), member, IMAGE, 0);
+        flip_each_bit(record_call(&world, POWER_LOST, 0, 0, 0), member, SETTINGS, 0);
     }
     group_done("");
 }

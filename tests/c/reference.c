@@ -21,6 +21,8 @@ enum refusal {
     UNSOUND = 14,
     BAD_LIMIT = 15,
     WRONG_PLACE = 16,
+    LOCKED_ADDRESS = 17,
+    NOT_LOCKABLE = 18,
     NO_TRANSACTION = 26
 };
 
@@ -32,6 +34,8 @@ enum {
     REGISTERS = LP586X_REGISTERS,
     CHIP_ENABLE = 0x000,
     DEVICE_INITIAL = 0x001,
+    FIRST_TRIM = 0x003,
+    SECOND_TRIM = 0x004,
     GROUPS = 0x00C,
     SWITCHES = 0x043,
     FAULT_STATE = 0x064,
@@ -167,8 +171,10 @@ uint8_t reference_reset_value(uint32_t member, uint32_t address)
 
 /* ---- The record */
 
+enum { FREE = 0, LOCKED = 1 };
+
 struct record {
-    uint8_t member, bus, pins;
+    uint8_t member, bus, pins, marks;
     uint8_t settings[REGISTERS];
     uint8_t image[REGISTERS];
 };
@@ -213,11 +219,27 @@ static int range_sound(const struct map *map, const uint8_t *image, uint32_t fro
 }
 #endif
 
+static int is_trim(uint32_t address)
+{
+    return address == FIRST_TRIM || address == SECOND_TRIM;
+}
+
+static int trims_alike(const struct record *record)
+{
+    return record->settings[FIRST_TRIM] == record->image[FIRST_TRIM] && record->settings[SECOND_TRIM] == record->image[SECOND_TRIM];
+}
+
+/* "a locked record whose images differ at these two is unsound" */
+static int marks_sound(const struct record *record)
+{
+    return record->marks == FREE || (record->marks == LOCKED && trims_alike(record));
+}
+
 static int record_sound(const uint8_t *bytes, size_t size)
 {
     const struct record *record = (const struct record *)bytes;
 
-    if (size != LP586X_RECORD_SIZE || open_refusal(record->member, record->bus, record->pins) != ACCEPTED)
+    if (size != LP586X_RECORD_SIZE || open_refusal(record->member, record->bus, record->pins) != ACCEPTED || !marks_sound(record))
         return 0;
     return range_sound(&maps[record->member], record->settings, 0, REGISTERS) &&
            range_sound(&maps[record->member], record->image, 0, REGISTERS);
@@ -236,6 +258,7 @@ uint32_t reference_open(uint8_t *bytes, size_t size, uint32_t member, uint32_t b
     record->member = (uint8_t)member;
     record->bus = (uint8_t)bus;
     record->pins = (uint8_t)pins;
+    record->marks = FREE;
     memcpy(record->settings, maps[member].reset, REGISTERS);
     memcpy(record->image, maps[member].reset, REGISTERS);
     return ACCEPTED;
@@ -253,6 +276,8 @@ uint32_t reference_register(uint8_t *bytes, size_t size, uint32_t address, uint3
     map = &maps[record->member];
     if (!writable(map, address))
         return NOT_WRITABLE;
+    if (record->marks == LOCKED && is_trim(address))
+        return LOCKED_ADDRESS;
     if (value > 255 || ((value ^ map->reset[address]) & map->reserved[address]))
         return RESERVED_BITS;
     record->settings[address] = (uint8_t)value;
@@ -376,13 +401,33 @@ uint32_t reference_scene(uint8_t *bytes, size_t size, const uint8_t *scene, size
     return ACCEPTED;
 }
 
+/* "Reset and Power lost release it." */
+static void chip_at_reset_values(struct record *record)
+{
+    memcpy(record->image, maps[record->member].reset, REGISTERS);
+    record->marks = FREE;
+}
+
 uint32_t reference_power_lost(uint8_t *bytes, size_t size)
 {
     struct record *record = (struct record *)bytes;
 
     if (!record_sound(bytes, size))
         return UNSOUND;
-    memcpy(record->image, maps[record->member].reset, REGISTERS);
+    chip_at_reset_values(record);
+    return ACCEPTED;
+}
+
+/* "locking a locked record, or one whose chip image is off or differs from the settings at 003h or 004h" */
+uint32_t reference_lock(uint8_t *bytes, size_t size)
+{
+    struct record *record = (struct record *)bytes;
+
+    if (!record_sound(bytes, size))
+        return UNSOUND;
+    if (record->marks == LOCKED || !(record->image[CHIP_ENABLE] & 1) || !trims_alike(record))
+        return NOT_LOCKABLE;
+    record->marks = LOCKED;
     return ACCEPTED;
 }
 
@@ -403,28 +448,33 @@ static void put_head(uint8_t *at, uint32_t bus, uint32_t pins, uint32_t address)
     }
 }
 
+/* "The test of whether an address may be written now looks at the lock" */
+static int may_be_written(const struct record *record, uint32_t address)
+{
+    return writable(&maps[record->member], address) && !(record->marks == LOCKED && is_trim(address));
+}
+
 /* "at most two addresses lie between them, all writable" */
-static int share_a_write(const struct map *map, uint32_t last, uint32_t next)
+static int share_a_write(const struct record *record, uint32_t last, uint32_t next)
 {
     if (next - last > 3)
         return 0;
     for (uint32_t address = last + 1; address < next; address++)
-        if (!writable(map, address))
+        if (!may_be_written(record, address))
             return 0;
     return 1;
 }
 
-/* The differing addresses from 001h up as writes, behind those that are planned. A sound record's images differ at writable
- * addresses only. */
+/* The differing addresses from 001h up as writes, behind those that are planned. A sound record's images differ only at addresses that
+ * may be written. */
 static uint32_t plan_registers(const struct record *record, struct write *writes, uint32_t n)
 {
-    const struct map *map = &maps[record->member];
     uint32_t last = 0;
 
     for (uint32_t address = DEVICE_INITIAL; address < REGISTERS; address++) {
         if (record->settings[address] == record->image[address])
             continue;
-        if (last != 0 && share_a_write(map, last, address))
+        if (last != 0 && share_a_write(record, last, address))
             writes[n - 1].length = (uint16_t)(address + 1 - writes[n - 1].start);
         else
             writes[n++] = (struct write){(uint16_t)address, 1};
@@ -644,7 +694,7 @@ uint32_t reference_reset(uint8_t *bytes, size_t size, uint8_t *buffer, size_t bu
     uint32_t answer = put_command(bytes, size, buffer, buffer_size, n, t, RESET, 0xFF, 1);
 
     if (answer == ACCEPTED)
-        memcpy(record->image, maps[record->member].reset, REGISTERS);
+        chip_at_reset_values(record);
     return answer;
 }
 

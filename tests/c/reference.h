@@ -19,6 +19,7 @@ uint32_t reference_group(uint8_t *record, size_t record_size, uint32_t line, uin
 uint32_t reference_switch(uint8_t *record, size_t record_size, uint32_t line, uint32_t sink, uint32_t state);
 uint32_t reference_scene(uint8_t *record, size_t record_size, const uint8_t *scene, size_t scene_size);
 uint32_t reference_power_lost(uint8_t *record, size_t record_size);
+uint32_t reference_lock(uint8_t *record, size_t record_size);
 uint32_t reference_update(uint8_t *record, size_t record_size, uint8_t *buffer, size_t buffer_size, uint32_t *n, uint32_t *t,
                           uint32_t *stored, uint32_t *needed);
 uint32_t reference_reset(uint8_t *record, size_t record_size, uint8_t *buffer, size_t buffer_size, uint32_t *n, uint32_t *t);

@@ -4,6 +4,7 @@
 #include "check.h"
 #include "groups.h"
 #include "panels.h"
+#include "reference.h"
 #include "world.h"
 
 #define HUGE_NUMBER 0xFFFFFFFFu
@@ -98,6 +99,121 @@ static void registers(const struct world *world)
     expect(LP586X_RESERVED_BIT, record_call(world, REGISTER, 0x005, 256, 0));
     expect(LP586X_RESERVED_BIT, record_call(world, REGISTER, 0x005, HUGE_NUMBER, 0));
     expect(LP586X_OK, record_call(world, REGISTER, 0x005, 255, 0));
+}
+
+/* Register of a locked record: 14, 4, 17, 5. At 003h and 004h it is 17 whatever the value, one with wrong reserved bits too. */
+static void locked_registers(uint32_t member)
+{
+    struct world world, unlocked;
+
+    world_locked(&world, member, LP586X_I2C, 1);
+    unlocked = world;
+    unlocked.record[MARKS] = FREE;
+    for (uint32_t address = 0x003; address <= 0x004; address++) {
+        uint32_t held = world.record[SETTINGS + address], reserved = reference_reserved(member, address);
+
+        expect(LP586X_UNSOUND, unsound(record_call(&world, REGISTER, address, held, 0)));
+        expect(LP586X_OK, record_call(&unlocked, REGISTER, address, held, 0));
+        expect(LP586X_LOCKED, record_call(&world, REGISTER, address, held, 0));
+        for (uint32_t bit = 1; bit < 256; bit <<= 1) {
+            expect(reserved & bit ? LP586X_RESERVED_BIT : LP586X_OK, record_call(&unlocked, REGISTER, address, held ^ bit, 0));
+            expect(LP586X_LOCKED, record_call(&world, REGISTER, address, held ^ bit, 0));
+        }
+        expect(LP586X_RESERVED_BIT, record_call(&unlocked, REGISTER, address, 256, 0));
+        expect(LP586X_LOCKED, record_call(&world, REGISTER, address, 256, 0));
+        expect(LP586X_LOCKED, record_call(&world, REGISTER, address, HUGE_NUMBER, 0));
+        expect(LP586X_NOT_WRITABLE, record_call(&world, REGISTER, 0x10000 + address, held, 0));
+    }
+    expect(LP586X_UNSOUND, unsound(record_call(&world, REGISTER, 0x003, 256, 0)));
+    registers(&world);
+    for (uint32_t address = 0; address < LP586X_REGISTERS; address++)
+        if (!is_trim(address))
+            expect(reference_writable(member, address) ? LP586X_OK : LP586X_NOT_WRITABLE,
+                   record_call(&world, REGISTER, address, world.record[SETTINGS + address], 0));
+}
+
+/* Lock: 14, 18. */
+static void locks(uint32_t member)
+{
+    struct world on, locked;
+    struct call call = record_call(&on, LOCK, 0, 0, 0);
+
+    world_locked(&locked, member, LP586X_I2C, 2);
+    on = locked;
+    on.record[MARKS] = FREE;
+    expect(LP586X_OK, call);
+    expect(LP586X_UNSOUND, unsound(call));
+    expect(LP586X_NOT_LOCKABLE, record_call(&locked, LOCK, 0, 0, 0));
+    expect(LP586X_UNSOUND, unsound(record_call(&locked, LOCK, 0, 0, 0)));
+    /* The chip image is off; what the settings say of 000h is no matter. */
+    expect(LP586X_NOT_LOCKABLE, with_byte(call, IMAGE, 0));
+    expect(LP586X_OK, with_byte(call, SETTINGS, 0));
+    locked.record[IMAGE] = 0;
+    expect(LP586X_NOT_LOCKABLE, record_call(&locked, LOCK, 0, 0, 0));
+    /* Bit 2 of 001h to 005h is reserved on no member. */
+    for (uint32_t address = 0x001; address <= 0x005; address++) {
+        const uint32_t number = is_trim(address) ? LP586X_NOT_LOCKABLE : LP586X_OK;
+
+        expect(number, with_byte(call, SETTINGS + address, on.record[SETTINGS + address] ^ 0x04));
+        expect(number, with_byte(call, IMAGE + address, on.record[IMAGE + address] ^ 0x04));
+    }
+    world_open(&on, member, LP586X_I2C, 2);
+    expect(LP586X_NOT_LOCKABLE, call);
+    check(LP586X_LOCKED == 17 && LP586X_NOT_LOCKABLE == 18, "the header has other refusals");
+}
+
+/* Every call that is lent a record and tests it, with arguments that the record as it stands would take. */
+static void expect_all_unsound(const struct world *world)
+{
+    static const uint8_t nothing[LP586X_FAULT_BYTES];
+    uint8_t records[LP586X_RECORDS_SIZE] = {0};
+    const uint32_t place = world->record[2];
+
+    expect(LP586X_UNSOUND, record_call(world, REGISTER, 0x000, 1, 0));
+    expect(LP586X_UNSOUND, record_call(world, REGISTER, 0x003, world->record[SETTINGS + 0x003], 0));
+    expect(LP586X_UNSOUND, record_call(world, LAMP, 0, 0, 1));
+    expect(LP586X_UNSOUND, record_call(world, GROUP, 0, 0, 1));
+    expect(LP586X_UNSOUND, record_call(world, SWITCH, 0, 0, 0));
+    expect(LP586X_UNSOUND, scene_call(world, nothing, 2));
+    expect(LP586X_UNSOUND, record_call(world, POWER_LOST, 0, 0, 0));
+    expect(LP586X_UNSOUND, record_call(world, LOCK, 0, 0, 0));
+    expect(LP586X_UNSOUND, list_call_of(world, UPDATE, LP586X_UPDATE_SIZE));
+    expect(LP586X_UNSOUND, list_call_of(world, RESET, LP586X_COMMAND_SIZE));
+    expect(LP586X_UNSOUND, list_call_of(world, CLEAR, LP586X_CLEAR_SIZE));
+    expect(LP586X_UNSOUND, faults_call(world, nothing, sizeof nothing, LP586X_DOTS));
+    memcpy(records + place * LP586X_RECORD_SIZE, world->record, LP586X_RECORD_SIZE);
+    expect(LP586X_UNSOUND, round_call(records, 1u << place, 64, LP586X_ROUND_SIZE));
+    expect(LP586X_OK, round_call(records, 0, 64, LP586X_ROUND_SIZE));
+}
+
+/* Marks of 2 to 255, and a locked record whose images differ at 003h or 004h. One that is off is sound, and so is one that differs
+ * elsewhere. */
+static void unsound_marks(uint32_t member)
+{
+    struct world world, changed;
+
+    world_locked(&world, member, LP586X_I2C, 3);
+    for (uint32_t marks = 2; marks < 256; marks++) {
+        changed = world;
+        changed.record[MARKS] = (uint8_t)marks;
+        expect_all_unsound(&changed);
+        expect(LP586X_OK, record_call(&changed, OPEN, member, LP586X_I2C, 3));
+    }
+    for (size_t image = SETTINGS; image <= IMAGE; image += IMAGE - SETTINGS)
+        for (uint32_t address = 0x003; address <= 0x004; address++)
+            for (uint32_t bit = 1; bit < 256; bit <<= 1) {
+                changed = world;
+                changed.record[image + address] ^= (uint8_t)bit;
+                expect_all_unsound(&changed);
+                changed.record[MARKS] = FREE;
+                expect(reference_reserved(member, address) & bit ? LP586X_UNSOUND : LP586X_OK,
+                       record_call(&changed, GROUP, 0, 0, 0));
+            }
+    changed = world;
+    changed.record[IMAGE] = 0;
+    changed.record[SETTINGS + 0x002] ^= 0x04;
+    changed.record[IMAGE + 0x005] ^= 0x04;
+    expect(LP586X_OK, record_call(&changed, GROUP, 0, 0, 0));
 }
 
 /* Lamp: 14, 6, 7. Group and Switch: 14, 6, 8. */
@@ -202,7 +318,7 @@ static void faults_of_unsound(struct call call)
         size_t at;
         uint8_t byte;
     } changes[] = {
-        {0, 5}, {0, 255}, {1, 2}, {1, 255}, {1, LP586X_SPI}, {2, 4}, {2, 255},
+        {0, 5}, {0, 255}, {1, 2}, {1, 255}, {1, LP586X_SPI}, {2, 4}, {2, 255}, {MARKS, 2}, {MARKS, 255},
         {SETTINGS + 0x000, 0x02}, {SETTINGS + 0x064, 0x01}, {SETTINGS + 0x0A9, 0xFF}, {SETTINGS + 0x1FF, 0x80},
         {IMAGE + 0x000, 0x02}, {IMAGE + 0x064, 0x01}, {IMAGE + 0x0A9, 0xFF}, {IMAGE + 0x1FF, 0x80},
     };
@@ -302,6 +418,9 @@ static void rounds_at(const uint8_t *records, uint32_t place)
 
     expect(LP586X_UNSOUND, with_byte(all, at, 5));
     expect(LP586X_OK, with_byte(none, at, 5));
+    expect(LP586X_OK, with_byte(all, at + MARKS, LOCKED));
+    expect(LP586X_UNSOUND, with_byte(all, at + MARKS, 2));
+    expect(LP586X_OK, with_byte(none, at + MARKS, 2));
     expect(LP586X_UNSOUND, with_byte(all, at + SETTINGS + 0x064, 1));
     expect(LP586X_UNSOUND, with_byte(all, at + IMAGE + 0x064, 1));
     expect(LP586X_OK, with_byte(none, at + IMAGE + 0x064, 1));
@@ -368,6 +487,9 @@ void group_refusals(void)
         feeds_by_n(&world);
         feeds_by_sum(&world);
         faults(member);
+        locked_registers(member);
+        locks(member);
+        unsound_marks(member);
     }
     world_open(&world, LP586X_LP5860, LP586X_I2C, 0);
     world_set(&world, REGISTER, 0x000, 0x01, 0);

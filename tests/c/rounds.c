@@ -1,7 +1,8 @@
 /* Rounds over four records. Some lists are worked out by hand. Then random histories: settings change at any of the places, chips lose
- * their power, and rounds are taken with any limit and any places present, many of them with flaws that must be refused, in the papers'
- * order. Of an accepted round each portion must begin the list of its place's update; the four chips hear the list and must hold their
- * images. Last, settings stand still: each place must be finished in as many rounds as it had differing registers.
+ * their power, records are locked and released, and rounds are taken with any limit and any places present, many of them with flaws that
+ * must be refused, in the papers' order. Of an accepted round each portion must begin the list of its place's update, and of a locked
+ * record none may write to 003h or 004h; the four chips hear the list and must hold their images. Last, settings stand still: each place
+ * must be finished in as many rounds as it had differing registers.
  */
 #include <inttypes.h>
 #include <stdio.h>
@@ -26,7 +27,23 @@ struct turn {
 
 /* ---- What was met */
 
-enum event { ACCEPTED, CUT, BEYOND_SHARE, NOTHING_SENT, ABSENT, TURNED_ON, TURNED_OFF, FINISHED, IN_THE_LAST_ROUND, EVENTS };
+enum event {
+    ACCEPTED,
+    CUT,
+    BEYOND_SHARE,
+    NOTHING_SENT,
+    ABSENT,
+    TURNED_ON,
+    TURNED_OFF,
+    FINISHED,
+    IN_THE_LAST_ROUND,
+    OF_LOCKED,
+    PARTED,
+    LOCKED_NOW,
+    RELEASED,
+    HELD,
+    EVENTS
+};
 
 static const struct {
     const char *name;
@@ -41,6 +58,11 @@ static const struct {
     [TURNED_OFF] = {"chips turned off", 1000},
     [FINISHED] = {"places that came to an end", 1000},
     [IN_THE_LAST_ROUND] = {"places that took as many rounds as they had differing registers", 50},
+    [OF_LOCKED] = {"portions of locked records", 20000},
+    [PARTED] = {"portions that have 002h and 005h, and not what a lock has between them", 500},
+    [LOCKED_NOW] = {"records locked", 1000},
+    [RELEASED] = {"locks released", 500},
+    [HELD] = {"Registers on a locked 003h or 004h", 500},
 };
 
 static unsigned long met[EVENTS], rounds, overruled[ANSWERS][ANSWERS];
@@ -107,23 +129,38 @@ static void check_records(const struct turn *turn, const uint8_t *after)
     }
 }
 
+/* A write of a round to these addresses; the chips are on I2C. */
+static int writes_to(const struct cursor *round, uint32_t first, uint32_t last)
+{
+    uint32_t start = (round->at[0] >> 1 & 3u) << 8 | round->at[1];
+
+    return start <= last && start + length_at(round) - 2 > first;
+}
+
 /* The transactions from here on that go to the place begin its pending list, the last one cut where needed. Answers their bytes. */
-static uint32_t check_beginning(struct cursor *round, uint32_t place, struct cursor pending_list)
+static uint32_t check_beginning(struct cursor *round, uint32_t place, struct cursor pending_list, int locked)
 {
     uint32_t bytes = 0;
-    int begins = 1, is_cut = 0;
+    int begins = 1, is_cut = 0, to_trim = 0, to_002 = 0, to_005 = 0;
 
     while (round->left > 0 && (round->at[0] >> 3 & 3u) == place) {
         uint32_t length = length_at(round), whole = length_at(&pending_list);
 
         begins = begins && !is_cut && length >= 3 && length <= whole && memcmp(round->at, pending_list.at, length) == 0;
         is_cut = length < whole;
+        to_trim |= writes_to(round, 0x003, 0x004);
+        to_002 |= writes_to(round, 0x002, 0x002);
+        to_005 |= writes_to(round, 0x005, 0x005);
         bytes += length;
         step(round);
         step(&pending_list);
     }
     check(begins, "place %u is sent what does not begin its update", place);
     note(CUT, is_cut);
+    if (locked)
+        check(!to_trim, "place %u is locked, and 003h or 004h is written", place);
+    note(OF_LOCKED, locked && bytes > 0);
+    note(PARTED, locked && to_002 && to_005);
     return bytes;
 }
 
@@ -136,10 +173,10 @@ static int check_portion(const struct turn *turn, struct cursor *round, uint32_t
 
     note(ABSENT, !takes_part(turn, place) && whole > 0);
     if (!takes_part(turn, place)) {
-        check_beginning(round, place, first_of(nothing));
+        check_beginning(round, place, first_of(nothing), 0);
         return 0;
     }
-    sent = check_beginning(round, place, first_of(list));
+    sent = check_beginning(round, place, first_of(list), before[MARKS] == LOCKED);
     check(sent == whole || sent + 2 >= share, "place %u is sent %u of %u bytes, its share is %u", place, sent, whole, share);
     note(BEYOND_SHARE, sent > share);
     return sent < whole;
@@ -245,16 +282,29 @@ static void spoil_image(uint8_t *record)
 
 static int unsound_present(struct turn *turn)
 {
-    static const uint32_t first_bad[3] = {5, 2, 4};
+    static const uint32_t first_bad[4] = {5, 2, 4, 2};
     uint8_t *record = some_record(turn, 1);
-    uint32_t at = random_below(6);
+    uint32_t at = random_below(8);
 
     if (record == NULL)
         return 0;
-    if (at < 3)
+    if (at < 4)
         record[at] = (uint8_t)(first_bad[at] + random_below(256 - first_bad[at]));
     else
         spoil_image(record);
+    return 1;
+}
+
+/* A locked record whose images differ at 003h or 004h; reserved bits are as they were. */
+static int locked_unlike(struct turn *turn)
+{
+    uint8_t *record = some_record(turn, 1);
+    uint32_t address = 0x003 + random_below(2);
+
+    if (record == NULL)
+        return 0;
+    record[MARKS] = LOCKED;
+    record[IMAGE + address] = record[SETTINGS + address] ^ 0x04;
     return 1;
 }
 
@@ -377,6 +427,7 @@ static const struct {
     {14, "another size of the records", other_size},
     {14, "present above 15", present_above},
     {14, "an unsound record", unsound_present},
+    {14, "a locked record whose images differ at 003h or 004h", locked_unlike},
     {15, "a limit below 12", limit_below},
     {15, "a limit above 4,096", limit_above},
     {16, "a record on SPI", on_spi},
@@ -458,6 +509,34 @@ static void reset(struct world *world)
     check(world_feed(world, list, sizeof list) == 0, "the chip refuses a reset");
 }
 
+/* Reset or power loss: a lock is released. */
+static void release(struct world *world, int by_reset)
+{
+    note(RELEASED, world->record[MARKS] == LOCKED);
+    if (by_reset) {
+        reset(world);
+    } else {
+        check(world_set(world, POWER_LOST, 0, 0, 0) == 0, "a power loss is refused");
+        world_chip_power_lost(world);
+    }
+    check(world->record[MARKS] == FREE, "the record has marks %u", world->record[MARKS]);
+}
+
+/* A value for 003h or 004h, which a locked record refuses; then an update and the lock. A chip that is off cannot be locked. */
+static void trim_and_lock(struct world *world)
+{
+    int locked = world->record[MARKS] == LOCKED, on = world->record[SETTINGS] & 1;
+    uint32_t address = 0x003 + random_below(2), value = world->record[SETTINGS + address] ^ 0x04, answer;
+
+    answer = world_set(world, REGISTER, address, value, 0);
+    check(answer == (locked ? LP586X_LOCKED : LP586X_OK), "register %03X answers %u", address, answer);
+    world_sync(world);
+    answer = world_set(world, LOCK, 0, 0, 0);
+    check(answer == (locked || !on ? LP586X_NOT_LOCKABLE : LP586X_OK), "locking answers %u", answer);
+    note(HELD, locked);
+    note(LOCKED_NOW, answer == 0);
+}
+
 /* A level that every data mode takes, on a dot of the member. */
 static void set_lamp(struct world *world)
 {
@@ -469,11 +548,18 @@ static void set_lamp(struct world *world)
     check(world_set(world, LAMP, dot / 18, dot % 18, random_below(256)) == 0, "dot %u is refused", dot);
 }
 
-/* Any settings, mostly of a chip that is on. */
+/* Any settings, mostly of a chip that is on; 002h to 005h change together more often. A lock keeps 003h and 004h. */
 static void any_settings(struct world *world, uint32_t times)
 {
-    scatter(world->record[0], world->record + SETTINGS, times);
-    world->record[SETTINGS] = !one_in(8);
+    uint8_t *settings = world->record + SETTINGS;
+
+    scatter(world->record[0], settings, times);
+    if (one_in(4))
+        for (uint32_t address = 0x002; address <= 0x005; address++)
+            settings[address] ^= 0x04;
+    if (world->record[MARKS] == LOCKED)
+        trims_from_image(world->record);
+    settings[0x000] = !one_in(8);
 }
 
 static void change(struct world *world)
@@ -485,11 +571,8 @@ static void change(struct world *world)
         world_sync(world);
         break;
     case 1:
-        reset(world);
-        break;
     case 2:
-        world_set(world, POWER_LOST, 0, 0, 0);
-        world_chip_power_lost(world);
+        release(world, one_in(2));
         break;
     case 3:
     case 4:
@@ -501,12 +584,16 @@ static void change(struct world *world)
     case 8:
         any_settings(world, rates[random_below(5)]);
         break;
+    case 9:
+    case 10:
+        trim_and_lock(world);
+        break;
     default:
         set_lamp(world);
     }
 }
 
-/* Any members, and chips that hold anything. */
+/* Any members, and chips that hold anything; half of the records are locked. */
 static void start(struct panels *panels)
 {
     uint32_t members[PLACES];
@@ -520,6 +607,7 @@ static void start(struct panels *panels)
         scatter(members[place], world->record + IMAGE, 1 + random_below(20));
         memcpy(world->chip + CHIP_REGISTERS, world->record + IMAGE, LP586X_REGISTERS);
         memcpy(world->record + SETTINGS, world->record + IMAGE, LP586X_REGISTERS);
+        world->record[MARKS] = one_in(2) ? LOCKED : FREE;
     }
 }
 
@@ -669,6 +757,32 @@ static void left_over(void)
     expect_list(&again, 5, 4096, then, sizeof then);
 }
 
+/* 002h and 005h differ at each place; places 0 and 2 are locked. There the two are a write each, elsewhere one with 003h and 004h between
+ * them, which 13 bytes cut behind 003h: each first portion has 3, and the byte that is left goes to place 1, since no write begins in it. */
+static void locked_places(void)
+{
+    static const uint8_t of_13[] = {4,    0,    13,   0,    3,    0,    4,    0,    3,    0,    3,    0,    0x80,
+                                    0x02, 0x01, 0x88, 0x02, 0x01, 0x08, 0x90, 0x02, 0x01, 0x98, 0x02, 0x01};
+    static const uint8_t then[] = {4,    0,    12,   0,    3,    0,    3,    0,    3,    0,    3,    0,
+                                   0x80, 0x05, 0x80, 0x88, 0x05, 0x80, 0x90, 0x05, 0x80, 0x98, 0x05, 0x80};
+    static const uint8_t of_24[] = {6,    0,    24,   0,    3,    0,    3,    0,    6,    0,    3,    0,    3,    0,
+                                    6,    0,    0x80, 0x02, 0x01, 0x80, 0x05, 0x80, 0x88, 0x02, 0x01, 0x08, 0x4B, 0x80,
+                                    0x90, 0x02, 0x01, 0x90, 0x05, 0x80, 0x98, 0x02, 0x01, 0x08, 0x4B, 0x80};
+    struct panels panels, again;
+
+    for (uint32_t place = 0; place < PLACES; place++) {
+        world_locked(&panels.at[place], LP586X_LP5860, LP586X_I2C, place);
+        if (place % 2 == 1)
+            panels.at[place].record[MARKS] = FREE;
+        world_set(&panels.at[place], REGISTER, 0x002, 0x01, 0);
+        world_set(&panels.at[place], REGISTER, 0x005, 0x80, 0);
+    }
+    again = panels;
+    expect_list(&panels, ALL_PRESENT, 13, of_13, sizeof of_13);
+    expect_list(&panels, ALL_PRESENT, 4096, then, sizeof then);
+    expect_list(&again, ALL_PRESENT, 24, of_24, sizeof of_24);
+}
+
 /* ---- All of it */
 
 static void check_all_met(void)
@@ -693,6 +807,7 @@ void group_rounds(uint64_t seed)
     group("rounds");
     one_write_each();
     left_over();
+    locked_places();
     random_seed(seed);
     while (rounds < RANDOM_ROUNDS) {
         snprintf(place, sizeof place, "history %lu", histories++);

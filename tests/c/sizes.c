@@ -11,13 +11,15 @@
 #include "reference.h"
 #include "world.h"
 
+/* 1,819 and 7,276 are what a record and four of them had before there were marks. */
 static const size_t sizes[] = {0, 1, 2, 3, 8, 9, 10, 255, 256, 908, 910, 911, 912, 1173, 1174, 1175, 1816, 1817, 1818, 1819,
-                               1820, 1821, 2048, 3638, 5457, 7275, 7276, 7277, 9095, 65536 + 911, 65536 + 1819, 65536 + 7276,
-                               131072 + 1819};
+                               1820, 1821, 1822, 2048, 3640, 5460, 7276, 7279, 7280, 7281, 9100, 65536 + 911, 65536 + 1820,
+                               65536 + 7280, 131072 + 1820};
 
-enum { SIZES = sizeof sizes / sizeof *sizes, LARGEST = 131072 + 1819, ROOM_BEHIND = 8192 };
+enum { SIZES = sizeof sizes / sizeof *sizes, LARGEST = 131072 + 1820, ROOM_BEHIND = 8192 };
 
-/* Any state size but the right one is refused with 14 by every call that is lent a record or a chip. */
+/* Any state size but the right one is refused with 14 by every call that is lent a record or a chip; with the right one each is accepted,
+ * a lock too: the chip is on and holds the settings. */
 static void wrong_state_sizes(const struct world *world)
 {
     static uint8_t state[LARGEST];
@@ -120,7 +122,7 @@ static void round_sizes(void)
 
         check(both(&call).answer == (size < 4 + 2 * 12 + 36 ? 10 : 0), "%s", call_text(&call));
     }
-    check(LP586X_RECORDS_SIZE == 7276 && LP586X_ROUND_SIZE == 4684, "the header has other sizes");
+    check(LP586X_RECORD_SIZE == 1820 && LP586X_RECORDS_SIZE == 7280 && LP586X_ROUND_SIZE == 4684, "the header has other sizes");
 }
 
 /* Every so many of the writable registers differ, 000h among them. */
@@ -163,7 +165,7 @@ static void rounds_beyond_32_bits(uint8_t *memory, size_t four_gib)
     check(lp586x_round(records, sizeof records, ALL_PRESENT, 36, memory, four_gib + 63, &n, &t) == 0, "round, 2^32 + 63");
     panels_lend(&panels, memory);
     check(lp586x_round(memory, four_gib + sizeof records, ALL_PRESENT, 36, buffer, sizeof buffer, &n, &t) == 14,
-          "round, records of 2^32 + 7276");
+          "round, records of 2^32 + 7280");
 }
 
 /* More than 4 GiB of address space, of which the calls touch a page or two. */
@@ -191,10 +193,11 @@ static void sizes_beyond_32_bits(const struct world *world)
     check(lp586x_chip_feed(chip, sizeof chip, memory, four_gib + 4) == 11, "chip_feed, 2^32 + 4");
     check(lp586x_transaction(memory, four_gib + 4, 0, &n, &t) == 11, "transaction, 2^32 + 4");
     memcpy(memory, world->record, sizeof world->record);
-    check(lp586x_power_lost(memory, four_gib + LP586X_RECORD_SIZE) == 14, "power_lost, a record of 2^32 + 1819");
-    check(lp586x_open(memory, four_gib + LP586X_RECORD_SIZE, 0, 0, 0) == 14, "open, a record of 2^32 + 1819");
+    check(lp586x_power_lost(memory, four_gib + LP586X_RECORD_SIZE) == 14, "power_lost, a record of 2^32 + 1820");
+    check(lp586x_lock(memory, four_gib + LP586X_RECORD_SIZE) == 14, "lock, a record of 2^32 + 1820");
+    check(lp586x_open(memory, four_gib + LP586X_RECORD_SIZE, 0, 0, 0) == 14, "open, a record of 2^32 + 1820");
     check(lp586x_faults(memory, four_gib + LP586X_RECORD_SIZE, small, 67, result, 198, &n, &t) == 14,
-          "faults, a record of 2^32 + 1819");
+          "faults, a record of 2^32 + 1820");
     memcpy(memory, world->chip, sizeof world->chip);
     check(lp586x_chip_feed(memory, four_gib + LP586X_CHIP_SIZE, small, 4) == 14, "chip_feed, a chip of 2^32 + 911");
     check(lp586x_chip_power_lost(memory, four_gib + LP586X_CHIP_SIZE) == 14, "chip_power_lost, a chip of 2^32 + 911");
@@ -204,14 +207,16 @@ static void sizes_beyond_32_bits(const struct world *world)
 
 void group_sizes(void)
 {
-    struct world world;
+    struct world world, synced;
 
     group("sizes");
     world_open(&world, 0, 0, 0);
     world_set(&world, REGISTER, 0x000, 0x01, 0);
     world_set(&world, REGISTER, 0x001, 0x58, 0);
     world_set(&world, LAMP, 0, 2, 0x40);
-    wrong_state_sizes(&world);
+    synced = world;
+    world_sync(&synced);
+    wrong_state_sizes(&synced);
     buffer_sizes(&world);
     clear_buffers(&world);
     result_sizes(&world);

@@ -13,6 +13,7 @@
 #include "lp586x.h"
 #include "random.h"
 #include "stores.h"
+#include "world.h"
 
 enum { CANARY = 32, CANARY_BYTE = 0xC5, CAPACITY = 1 << 18, RANGES = 7 };
 
@@ -52,6 +53,7 @@ static const char *const kind_names[] = {
     [SWITCH] = "switch",
     [SCENE] = "scene",
     [POWER_LOST] = "power_lost",
+    [LOCK] = "lock",
     [UPDATE] = "update",
     [RESET] = "reset",
     [CLEAR] = "clear",
@@ -63,15 +65,20 @@ static const char *const kind_names[] = {
     [ROUND] = "round",
 };
 
+static int lends_record(enum kind kind)
+{
+    return kind <= FAULTS;
+}
+
 const char *call_text(const struct call *call)
 {
     static char text[200];
-    int has_head = call->state_size >= 3;
+    int has_head = call->state_size >= 3, has_marks = lends_record(call->kind) && call->state_size > MARKS;
 
-    snprintf(text, sizeof text, "%s (%X, %X, %X; member %d, bus %d, pins %d; %zu, %zu, %zu bytes lent)", kind_names[call->kind],
-             (unsigned)call->numbers[0], (unsigned)call->numbers[1], (unsigned)call->numbers[2],
+    snprintf(text, sizeof text, "%s (%X, %X, %X; member %d, bus %d, pins %d, marks %d; %zu, %zu, %zu bytes lent)",
+             kind_names[call->kind], (unsigned)call->numbers[0], (unsigned)call->numbers[1], (unsigned)call->numbers[2],
              has_head ? call->state[0] : -1, has_head ? call->state[1] : -1, has_head ? call->state[2] : -1,
-             call->state_size, call->input_size, call->buffer_size);
+             has_marks ? call->state[MARKS] : -1, call->state_size, call->input_size, call->buffer_size);
     return text;
 }
 
@@ -169,8 +176,10 @@ static uint32_t call_record(const struct interface *calls, const struct call *ca
         return calls->set_switch(record, size, numbers[0], numbers[1], numbers[2]);
     case SCENE:
         return calls->scene(record, size, input, call->input_size);
-    default:
+    case POWER_LOST:
         return calls->power_lost(record, size);
+    default:
+        return calls->lock(record, size);
     }
 }
 
@@ -213,7 +222,7 @@ static void perform(struct side *side, const struct call *call)
     uint32_t *stored = (uint32_t *)(void *)side->ranges[STORED].bytes;
     uint32_t *needed = (uint32_t *)(void *)side->ranges[NEEDED].bytes;
 
-    if (call->kind <= POWER_LOST)
+    if (call->kind <= LOCK)
         side->answer = call_record(calls, call, state, input);
     else if (call->kind <= CLEAR)
         side->answer = call_list(calls, call, state, buffer, n, t, stored, needed);
@@ -314,6 +323,38 @@ static void check_stored(const struct call *call)
     check(stored == named, "%s: stored is %u, but the list names %u addresses", call_text(call), stored, named);
     check(memcmp(sides[0].ranges[STATE].bytes, expected, sizeof expected) == 0, "%s: stored something else than the list's data bytes",
           call_text(call));
+    if (before[STATE][MARKS] == LOCKED)
+        check(!list_names(sides[0].ranges[BUFFER].bytes, before[STATE][1], 0x003, 2), "%s: writes to a locked register", call_text(call));
+}
+
+/* Those that an accepted call leaves. */
+static uint8_t marks_after(enum kind kind, uint8_t marks)
+{
+    switch (kind) {
+    case OPEN:
+    case RESET:
+    case POWER_LOST:
+        return FREE;
+    case LOCK:
+        return LOCKED;
+    default:
+        return marks;
+    }
+}
+
+/* "Reset and Power lost release it", and a call of its own sets it, "once until it is released". */
+static void check_marks(const struct call *call)
+{
+    const uint8_t *record = sides[0].ranges[STATE].bytes, old = before[STATE][MARKS];
+    uint8_t expected[LP586X_RECORD_SIZE];
+
+    check(record[MARKS] == marks_after(call->kind, old), "%s: leaves marks %u", call_text(call), record[MARKS]);
+    if (call->kind != LOCK)
+        return;
+    memcpy(expected, before[STATE], sizeof expected);
+    expected[MARKS] = LOCKED;
+    check(old == FREE, "%s: locks a record with marks %u", call_text(call), old);
+    check(memcmp(record, expected, sizeof expected) == 0, "%s: changed more than the marks", call_text(call));
 }
 
 static int answers_a_list(enum kind kind)
@@ -337,6 +378,8 @@ struct outcome both(const struct call *call)
         check_behind_list(call);
     if (sides[0].answer == 0 && call->kind == UPDATE)
         check_stored(call);
+    if (sides[0].answer == 0 && lends_record(call->kind))
+        check_marks(call);
     return (struct outcome){.answer = sides[0].answer,
                             .n = stored_number(N),
                             .t = stored_number(T),

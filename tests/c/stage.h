@@ -4,7 +4,8 @@
  * memory that the program may touch. After the call both sides must agree in the answer and in every lent byte; a refused call
  * must have changed no byte, but for the length needed that refusal 10 of Update stores; behind its list the buffer must hold what
  * it held; no canary may have changed. After an accepted Update the chip image must have taken the data bytes of the list, the rest of
- * the record must be what it was, and stored must be their count.
+ * the record must be what it was, and stored must be their count; of a locked record none of them may go to 003h or 004h. An accepted
+ * Open, Reset or Power lost leaves a free record, an accepted Lock has changed the marks alone, and no other call changes them.
  */
 #ifndef STAGE_H
 #define STAGE_H
@@ -20,6 +21,7 @@ enum kind {
     SWITCH,
     SCENE,
     POWER_LOST,
+    LOCK,
     UPDATE,
     RESET,
     CLEAR,

@@ -1,7 +1,8 @@
 /* What an update stores in its record: the bytes of the chip image that its list sends, and no others. A byte that gets the value which
  * it had already shows in no comparison. So here the record stands in memory that may only be read; each store into it is noted and let
  * through, and must begin at a byte that the list sends. Where only the bytes in front of the list's first address may not be changed,
- * or those behind its last one, there must be no store into them. The library and the reference do each.
+ * or those behind its last one, there must be no store into them. Of the same kind: a lock stores the marks alone, a reset and a power
+ * loss the marks and the chip image. The library and the reference do each.
  */
 #define _GNU_SOURCE
 #include "stores.h"
@@ -59,6 +60,21 @@ uint32_t take_list(uint8_t *record, const uint8_t *list)
     return take_and_mark(record, list, named);
 }
 
+int list_names(const uint8_t *list, uint32_t bus, uint32_t address, uint32_t count)
+{
+    const uint32_t n = get_two(list);
+    const uint8_t *at = list + 4 + 2 * n;
+
+    for (uint32_t i = 0; i < n; i++) {
+        uint32_t length = get_two(list + 4 + 2 * i), start = address_of(bus, at);
+
+        if (start < address + count && start + length - 2 > address)
+            return 1;
+        at += length;
+    }
+    return 0;
+}
+
 /* ---- Memory that may only be read */
 
 enum part { FRONT, BEHIND };
@@ -68,13 +84,13 @@ enum { NOWHERE = -1, TRAP_FLAG = 0x100 };
 struct trial {
     struct outcome outcome;
     uint32_t stores;   /* those that began in memory that may only be read */
-    ptrdiff_t outside; /* the first of them that began at a byte which the list does not send: its number in the record */
+    ptrdiff_t outside; /* the first of them that began at a byte which the call may not store: its number in the record */
 };
 
 static uint8_t *memory; /* a page for each part */
 static size_t page;
 static enum part read_only;
-static uint8_t sent[LP586X_REGISTERS]; /* 1 for an address of the list */
+static uint8_t may_store[LP586X_RECORD_SIZE]; /* 1 for a byte of the record that the call may store */
 static struct trial trial;
 
 static int only_read(void)
@@ -91,14 +107,14 @@ static int all_open(void)
 static void note_store(int number, siginfo_t *info, void *context)
 {
     uint8_t *at = info->si_addr;
-    ptrdiff_t byte = at - trial.outcome.state, address = byte - IMAGE;
+    ptrdiff_t byte = at - trial.outcome.state;
 
     if (at < memory || at >= memory + 2 * page || !all_open()) {
         signal(number, SIG_DFL);
         return;
     }
     trial.stores++;
-    if (trial.outside == NOWHERE && !(address >= 0 && address < (ptrdiff_t)LP586X_REGISTERS && sent[address]))
+    if (trial.outside == NOWHERE && !(byte >= 0 && byte < (ptrdiff_t)LP586X_RECORD_SIZE && may_store[byte]))
         trial.outside = byte;
     ((ucontext_t *)context)->uc_mcontext.gregs[REG_EFL] |= TRAP_FLAG;
 }
@@ -119,8 +135,25 @@ static void must_do(int done)
     }
 }
 
-/* An update of a copy of the record, whose bytes in front of the one of this number, or from there on, may only be read. */
-static struct trial try_update(const struct interface *calls, const uint8_t *record, size_t edge, enum part part, size_t buffer_size)
+/* UPDATE, RESET, POWER_LOST or LOCK. */
+static uint32_t make_call(const struct interface *calls, enum kind kind, uint8_t *record, uint8_t *buffer, size_t buffer_size,
+                          struct outcome *out)
+{
+    switch (kind) {
+    case UPDATE:
+        return calls->update(record, LP586X_RECORD_SIZE, buffer, buffer_size, &out->n, &out->t, &out->stored, &out->needed);
+    case RESET:
+        return calls->reset(record, LP586X_RECORD_SIZE, buffer, buffer_size, &out->n, &out->t);
+    case POWER_LOST:
+        return calls->power_lost(record, LP586X_RECORD_SIZE);
+    default:
+        return calls->lock(record, LP586X_RECORD_SIZE);
+    }
+}
+
+/* The call on a copy of the record, whose bytes in front of the one of this number, or from there on, may only be read. */
+static struct trial try_call(const struct interface *calls, enum kind kind, const uint8_t *record, size_t edge, enum part part,
+                             size_t buffer_size)
 {
     static uint8_t buffer[LP586X_UPDATE_SIZE];
     const struct sigaction noting = {.sa_sigaction = note_store, .sa_flags = SA_SIGINFO};
@@ -133,26 +166,30 @@ static struct trial try_update(const struct interface *calls, const uint8_t *rec
     read_only = part;
     memcpy(lent, record, LP586X_RECORD_SIZE);
     must_do(sigaction(SIGSEGV, &noting, &old_noting) == 0 && sigaction(SIGTRAP, &going_on, &old_going_on) == 0 && only_read());
-    out.answer = calls->update(lent, LP586X_RECORD_SIZE, buffer, buffer_size, &out.n, &out.t, &out.stored, &out.needed);
+    out.answer = make_call(calls, kind, lent, buffer, buffer_size, &out);
     must_do(all_open() && sigaction(SIGSEGV, &old_noting, NULL) == 0 && sigaction(SIGTRAP, &old_going_on, NULL) == 0);
     trial.outcome = out;
     return trial;
 }
 
 /* The whole record may only be read. */
-static struct trial try_read_only(const struct interface *calls, const uint8_t *record, size_t buffer_size)
+static struct trial try_read_only(const struct interface *calls, enum kind kind, const uint8_t *record, size_t buffer_size)
 {
-    return try_update(calls, record, LP586X_RECORD_SIZE, FRONT, buffer_size);
+    return try_call(calls, kind, record, LP586X_RECORD_SIZE, FRONT, buffer_size);
 }
 
 /* ---- What must come of it */
 
 static const struct interface *const sides[] = {&library, &reference};
 
-/* The record after an update; the first address of its list is from, and the last is to - 1. */
+/* The record after an accepted call, and what an update says that it has stored. */
 struct expected {
     uint8_t record[LP586X_RECORD_SIZE];
     uint32_t stored;
+};
+
+/* Bytes of the record from one on, up to another. */
+struct region {
     size_t from, to;
 };
 
@@ -160,49 +197,55 @@ static void expect(const struct interface *calls, struct trial tried, const stru
 {
     const struct outcome *out = &tried.outcome;
 
-    check(tried.outside == NOWHERE, "%s, member %u: stores byte %td of the record, which the list does not send", calls->name,
+    check(tried.outside == NOWHERE, "%s, member %u: stores byte %td of the record, which is not to be stored", calls->name,
           expected->record[0], tried.outside);
     check(out->answer == 0 && out->stored == expected->stored, "%s: answers %u, %u stored, not %u", calls->name, out->answer,
           out->stored, expected->stored);
     check(memcmp(out->state, expected->record, sizeof expected->record) == 0, "%s: another record", calls->name);
 }
 
-/* With all of the record, the bytes in front of the list's addresses, and those behind them. */
-static void expect_three(const struct interface *calls, const uint8_t *record, const struct expected *expected)
+/* With all of the record, then with the bytes in front of each region, and with those behind it. */
+static void expect_within(enum kind kind, const uint8_t *record, const struct expected *expected, const struct region *regions,
+                          int count)
 {
-    struct trial whole = try_read_only(calls, record, LP586X_UPDATE_SIZE);
+    for (int side = 0; side < 2; side++) {
+        struct trial whole = try_read_only(sides[side], kind, record, LP586X_UPDATE_SIZE);
 
-    expect(calls, whole, expected);
-    check(whole.stores > 0, "%s: no store is noted", calls->name);
-    expect(calls, try_update(calls, record, IMAGE + expected->from, FRONT, LP586X_UPDATE_SIZE), expected);
-    expect(calls, try_update(calls, record, IMAGE + expected->to, BEHIND, LP586X_UPDATE_SIZE), expected);
+        expect(sides[side], whole, expected);
+        check(whole.stores > 0, "%s: no store is noted", sides[side]->name);
+        for (int i = 0; i < count; i++) {
+            expect(sides[side], try_call(sides[side], kind, record, regions[i].from, FRONT, LP586X_UPDATE_SIZE), expected);
+            expect(sides[side], try_call(sides[side], kind, record, regions[i].to, BEHIND, LP586X_UPDATE_SIZE), expected);
+        }
+    }
 }
 
 /* The update is accepted and stores so many bytes. */
 static void expect_stored(const uint8_t *record, uint32_t stored)
 {
-    struct expected expected = {.stored = stored, .to = LP586X_REGISTERS};
+    struct expected expected = {.stored = stored};
+    struct region addresses = {IMAGE, LP586X_RECORD_SIZE};
     uint8_t copy[LP586X_RECORD_SIZE], list[LP586X_UPDATE_SIZE];
     uint32_t n, t, counted, needed;
 
     memcpy(copy, record, sizeof copy);
     memcpy(expected.record, record, sizeof expected.record);
     check(reference_update(copy, sizeof copy, list, sizeof list, &n, &t, &counted, &needed) == 0, "an update is refused");
-    check(take_and_mark(expected.record, list, sent) == stored, "the list has other than %u bytes of data", stored);
-    while (expected.from < expected.to && !sent[expected.from])
-        expected.from++;
-    while (expected.to > expected.from && !sent[expected.to - 1])
-        expected.to--;
-    for (int side = 0; side < 2; side++)
-        expect_three(sides[side], record, &expected);
+    memset(may_store, 0, sizeof may_store);
+    check(take_and_mark(expected.record, list, may_store + IMAGE) == stored, "the list has other than %u bytes of data", stored);
+    while (addresses.from < addresses.to && !may_store[addresses.from])
+        addresses.from++;
+    while (addresses.to > addresses.from && !may_store[addresses.to - 1])
+        addresses.to--;
+    expect_within(UPDATE, record, &expected, &addresses, 1);
 }
 
 /* The update has an empty list and stores nothing. */
 static void expect_nothing(const uint8_t *record)
 {
-    memset(sent, 0, sizeof sent);
+    memset(may_store, 0, sizeof may_store);
     for (int side = 0; side < 2; side++) {
-        struct trial tried = try_read_only(sides[side], record, 4);
+        struct trial tried = try_read_only(sides[side], UPDATE, record, 4);
         const struct outcome *out = &tried.outcome;
 
         check(out->answer == 0 && out->n == 0 && out->t == 0 && out->stored == 0 && out->needed == OUT_UNTOUCHED,
@@ -211,12 +254,12 @@ static void expect_nothing(const uint8_t *record)
     }
 }
 
-/* The update is refused and stores nothing, but for the length needed. */
-static void expect_refused(const uint8_t *record, size_t buffer_size, uint32_t number, uint32_t needed)
+/* The call is refused and stores nothing, but for the length needed of an update. */
+static void expect_refused(enum kind kind, const uint8_t *record, size_t buffer_size, uint32_t number, uint32_t needed)
 {
-    memset(sent, 0, sizeof sent);
+    memset(may_store, 0, sizeof may_store);
     for (int side = 0; side < 2; side++) {
-        struct trial tried = try_read_only(sides[side], record, buffer_size);
+        struct trial tried = try_read_only(sides[side], kind, record, buffer_size);
         const struct outcome *out = &tried.outcome;
 
         check(out->answer == number && out->needed == needed, "%s: answers %u, %u needed", sides[side]->name, out->answer, out->needed);
@@ -228,9 +271,16 @@ static void expect_refused(const uint8_t *record, size_t buffer_size, uint32_t n
 
 /* ---- Records */
 
+/* Whether the settings may be changed there, the record staying sound. */
+static int may_change(const uint8_t *record, uint32_t address)
+{
+    return reference_writable(record[0], address) && !(record[MARKS] == LOCKED && is_trim(address));
+}
+
 static void change(uint8_t *record, uint32_t address)
 {
-    record[SETTINGS + address] ^= (uint8_t)~reference_reserved(record[0], address);
+    if (may_change(record, address))
+        record[SETTINGS + address] ^= (uint8_t)~reference_reserved(record[0], address);
 }
 
 /* A chip that is on and holds its settings. */
@@ -241,12 +291,12 @@ static void start_on(struct world *world, uint32_t member, uint32_t bus)
     world_sync(world);
 }
 
-static int four_writable(uint32_t member, uint32_t address)
+static int four_writable(const uint8_t *record, uint32_t address)
 {
     int all = address + 3 < LP586X_REGISTERS;
 
     for (uint32_t i = 0; i < 4 && all; i++)
-        all = reference_writable(member, address + i);
+        all = may_change(record, address + i);
     return all;
 }
 
@@ -256,11 +306,11 @@ static void each_address(const struct world *world)
     for (uint32_t address = 0x001; address < LP586X_REGISTERS; address++) {
         struct world changed = *world;
 
-        if (!reference_writable(world->record[0], address))
+        if (!may_change(world->record, address))
             continue;
         change(changed.record, address);
         expect_stored(changed.record, 1);
-        if (!four_writable(world->record[0], address))
+        if (!four_writable(world->record, address))
             continue;
         change(changed.record, address + 3);
         expect_stored(changed.record, 4);
@@ -297,6 +347,8 @@ static void any_settings(const struct world *world)
         scatter(changed.record[0], changed.record + IMAGE, rates[random_below(5)]);
         memcpy(changed.record + SETTINGS, changed.record + IMAGE, LP586X_REGISTERS);
         scatter(changed.record[0], changed.record + SETTINGS, rates[i % 5]);
+        if (changed.record[MARKS] == LOCKED)
+            trims_from_image(changed.record);
         after = changed;
         outcome = world_list(&after, UPDATE, LP586X_UPDATE_SIZE);
         if (outcome.n == 0)
@@ -313,31 +365,142 @@ static void refused(const struct world *world)
 
     change(changed.record, 0x001);
     for (size_t size = 0; size < 9; size++)
-        expect_refused(changed.record, size, LP586X_BUFFER_SHORT, 9);
+        expect_refused(UPDATE, changed.record, size, LP586X_BUFFER_SHORT, 9);
     expect_stored(changed.record, 1);
     changed.record[0] = MEMBERS;
-    expect_refused(changed.record, LP586X_UPDATE_SIZE, LP586X_UNSOUND, OUT_UNTOUCHED);
+    expect_refused(UPDATE, changed.record, LP586X_UPDATE_SIZE, LP586X_UNSOUND, OUT_UNTOUCHED);
     changed = *world;
     changed.record[IMAGE + 0x064] = 1;
-    expect_refused(changed.record, LP586X_UPDATE_SIZE, LP586X_UNSOUND, OUT_UNTOUCHED);
+    expect_refused(UPDATE, changed.record, LP586X_UPDATE_SIZE, LP586X_UNSOUND, OUT_UNTOUCHED);
+}
+
+/* ---- Locks */
+
+static const struct region marks = {MARKS, SETTINGS}, image = {IMAGE, LP586X_RECORD_SIZE};
+
+/* The marks alone, from free to locked. */
+static void expect_lock(const uint8_t *record)
+{
+    struct expected expected = {.stored = OUT_UNTOUCHED};
+
+    memcpy(expected.record, record, sizeof expected.record);
+    expected.record[MARKS] = LOCKED;
+    memset(may_store, 0, sizeof may_store);
+    may_store[MARKS] = 1;
+    expect_within(LOCK, record, &expected, &marks, 1);
+}
+
+/* Reset or Power lost: the marks and the chip image. */
+static void expect_released(enum kind kind, const uint8_t *record)
+{
+    const struct region regions[] = {marks, image};
+    struct expected expected = {.stored = OUT_UNTOUCHED};
+
+    memcpy(expected.record, record, sizeof expected.record);
+    expected.record[MARKS] = FREE;
+    for (uint32_t address = 0; address < LP586X_REGISTERS; address++)
+        expected.record[IMAGE + address] = reference_reset_value(record[0], address);
+    memset(may_store, 0, sizeof may_store);
+    may_store[MARKS] = 1;
+    memset(may_store + IMAGE, 1, LP586X_REGISTERS);
+    expect_within(kind, record, &expected, regions, 2);
+}
+
+static void expect_lock_refused(const uint8_t *record, uint32_t number)
+{
+    expect_refused(LOCK, record, 0, number, OUT_UNTOUCHED);
+}
+
+/* 18 of a free record, and 14. */
+static void locks_refused(const struct world *world)
+{
+    struct world changed;
+
+    for (uint32_t address = 0x003; address <= 0x004; address++) {
+        changed = *world;
+        change(changed.record, address);
+        expect_lock_refused(changed.record, LP586X_NOT_LOCKABLE);
+        changed.record[MARKS] = LOCKED;
+        expect_lock_refused(changed.record, LP586X_UNSOUND);
+        expect_refused(UPDATE, changed.record, LP586X_UPDATE_SIZE, LP586X_UNSOUND, OUT_UNTOUCHED);
+        expect_refused(RESET, changed.record, LP586X_UPDATE_SIZE, LP586X_UNSOUND, OUT_UNTOUCHED);
+        expect_refused(POWER_LOST, changed.record, 0, LP586X_UNSOUND, OUT_UNTOUCHED);
+    }
+    changed = *world;
+    changed.record[IMAGE] = 0;
+    expect_lock_refused(changed.record, LP586X_NOT_LOCKABLE);
+}
+
+/* Locked: 18, and a refused reset keeps the lock. */
+static void refused_when_locked(const struct world *world)
+{
+    expect_lock_refused(world->record, LP586X_NOT_LOCKABLE);
+    for (size_t size = 0; size < LP586X_COMMAND_SIZE; size++)
+        expect_refused(RESET, world->record, size, LP586X_BUFFER_SHORT, OUT_UNTOUCHED);
+}
+
+/* 002h and 005h are sent, and what lies between them is not stored. */
+static void around_the_lock(const struct world *world)
+{
+    struct world changed = *world;
+
+    change(changed.record, 0x002);
+    change(changed.record, 0x005);
+    expect_stored(changed.record, 2);
+}
+
+static void stores_of_updates(const struct world *world)
+{
+    each_address(world);
+    on_and_off(world);
+    any_settings(world);
+    refused(world);
+}
+
+/* Each member on each bus. */
+static void for_all(void (*stores)(uint32_t member, uint32_t bus))
+{
+    for (uint32_t member = 0; member < MEMBERS; member++)
+        for (uint32_t bus = LP586X_I2C; bus <= LP586X_SPI; bus++)
+            stores(member, bus);
+}
+
+static void update_stores(uint32_t member, uint32_t bus)
+{
+    struct world world;
+
+    start_on(&world, member, bus);
+    stores_of_updates(&world);
+    world_locked(&world, member, bus, world.record[2]);
+    stores_of_updates(&world);
+    around_the_lock(&world);
+}
+
+static void lock_stores(uint32_t member, uint32_t bus)
+{
+    struct world world;
+
+    start_on(&world, member, bus);
+    locks_refused(&world);
+    expect_lock(world.record);
+    expect_released(RESET, world.record);
+    expect_released(POWER_LOST, world.record);
+    world_locked(&world, member, bus, world.record[2]);
+    refused_when_locked(&world);
+    expect_released(RESET, world.record);
+    expect_released(POWER_LOST, world.record);
 }
 
 void group_stores(void)
 {
-    struct world world;
-
-    group("what an update stores");
     page = (size_t)sysconf(_SC_PAGESIZE);
     memory = mmap(NULL, 2 * page, PROT_READ | PROT_WRITE, MAP_PRIVATE | MAP_ANONYMOUS, -1, 0);
     must_do(memory != MAP_FAILED);
-    for (uint32_t member = 0; member < MEMBERS; member++)
-        for (uint32_t bus = LP586X_I2C; bus <= LP586X_SPI; bus++) {
-            start_on(&world, member, bus);
-            each_address(&world);
-            on_and_off(&world);
-            any_settings(&world);
-            refused(&world);
-        }
-    munmap(memory, 2 * page);
+    group("what an update stores");
+    for_all(update_stores);
     group_done("");
+    group("what a lock stores");
+    for_all(lock_stores);
+    group_done("");
+    munmap(memory, 2 * page);
 }

@@ -6,6 +6,11 @@
 #include "random.h"
 #include "reference.h"
 
+int is_trim(uint32_t address)
+{
+    return address == 0x003 || address == 0x004;
+}
+
 struct call record_call(const struct world *world, enum kind kind, uint32_t first, uint32_t second, uint32_t third)
 {
     return (struct call){
@@ -152,4 +157,20 @@ struct outcome world_sync(struct world *world)
     update.buffer = list;
     check(world_feed(world, list, 4 + 2 * update.n + update.t) == 0, "the chip refuses an update's list");
     return update;
+}
+
+/* 08h and 4Bh have the reserved bits of every member at their reset values. */
+void world_locked(struct world *world, uint32_t member, uint32_t bus, uint32_t pins)
+{
+    world_open(world, member, bus, pins);
+    check(world_set(world, REGISTER, 0x000, 0x01, 0) == 0, "chip enable is refused");
+    check(world_set(world, REGISTER, 0x003, 0x08, 0) == 0, "003h is refused");
+    check(world_set(world, REGISTER, 0x004, 0x4B, 0) == 0, "004h is refused");
+    world_sync(world);
+    check(world_set(world, LOCK, 0, 0, 0) == 0, "locking is refused");
+}
+
+void trims_from_image(uint8_t *record)
+{
+    memcpy(record + SETTINGS + 0x003, record + IMAGE + 0x003, 2);
 }

@@ -10,7 +10,13 @@ struct world {
     uint8_t chip[LP586X_CHIP_SIZE];
 };
 
-enum { SETTINGS = 3, IMAGE = 3 + LP586X_REGISTERS, CHIP_REGISTERS = 3 };
+enum { MARKS = 3, SETTINGS = 4, IMAGE = 4 + LP586X_REGISTERS, CHIP_REGISTERS = 3 };
+
+/* What stands at MARKS. */
+enum { FREE = 0, LOCKED = 1 };
+
+/* 003h and 004h, which a lock is over. */
+int is_trim(uint32_t address);
 
 /* Opens a record and gives the chip power; both must be accepted. */
 void world_open(struct world *world, uint32_t member, uint32_t bus, uint32_t pins);
@@ -22,7 +28,7 @@ void world_lamps(struct world *world, uint32_t level);
 /* A record on I2C whose settings and chip have this data mode, and this level for every lamp. */
 void world_lit(struct world *world, uint32_t member, uint32_t mode, uint32_t level);
 
-/* OPEN to SWITCH and POWER_LOST, with the call's numbers. */
+/* OPEN to SWITCH, POWER_LOST and LOCK, with the call's numbers. */
 uint32_t world_set(struct world *world, enum kind kind, uint32_t first, uint32_t second, uint32_t third);
 uint32_t world_scene(struct world *world, const uint8_t *scene, size_t scene_size);
 
@@ -40,6 +46,12 @@ void scatter(uint32_t member, uint8_t *image, uint32_t times);
 
 /* An update that must be accepted and is fed to the chip. */
 struct outcome world_sync(struct world *world);
+
+/* A record whose chip is on, with a value at 003h and at 004h that is not the reset value, locked; the chip holds the settings. */
+void world_locked(struct world *world, uint32_t member, uint32_t bus, uint32_t pins);
+
+/* The settings get what the chip image has at 003h and 004h, so that a locked record is sound. */
+void trims_from_image(uint8_t *record);
 
 /* The calls of a struct call on the record or the chip as they stand. */
 struct call record_call(const struct world *world, enum kind kind, uint32_t first, uint32_t second, uint32_t third);

@@ -36,4 +36,6 @@ pub enum Request {
     Reset,
     PowerLost,
     Update,
+    // of the factory-set registers
+    Lock,
 }

@@ -12,7 +12,7 @@ use lib.Seq.{take-all, take-at, drop-at, take-add, drop-drop}
 use Rattle.map.specs.declared.refusals.Answer.{Answer}
 use Rattle.map.specs.declared.refusals.Answer as answers
 use Rattle.map.specs.declared.refusals.Refusal.{Refusal}
-use Rattle.map.specs.declared.refusals.Refusal.the-variants.{Member, Bus, Pins, NotWritable, ReservedBit, NoDot, Level, GroupOrState, SceneLength, BufferShort, ListSizes, FaultLength, Unsound, RoundLimit, NotItsPlace, NoTransaction}
+use Rattle.map.specs.declared.refusals.Refusal.the-variants.{Member, Bus, Pins, NotWritable, ReservedBit, NoDot, Level, GroupOrState, SceneLength, BufferShort, ListSizes, FaultLength, Unsound, RoundLimit, NotItsPlace, Locked, NotLockable, NoTransaction}
 use Rattle.map.specs.Refusals.{refusalNumber, answerNumber, accepted}
 use Rattle.host.specs.declared.Record.{Record}
 use Rattle.host.specs.declared.Changed.{Changed}
@@ -193,6 +193,8 @@ refusal-some FaultLength e = omega arith
 refusal-some Unsound e = omega arith
 refusal-some RoundLimit e = omega arith
 refusal-some NotItsPlace e = omega arith
+refusal-some Locked e = omega arith
+refusal-some NotLockable e = omega arith
 refusal-some NoTransaction e = omega arith
 
 -- an accepted call answers 0

@@ -12,7 +12,7 @@ use Rattle.map.specs.Map.{linesOf, columnsOf, hasColumn, dotIn, numberIn, addre
 use Rattle.map.specs.Lists.{filled}
 use Rattle.dots.specs.Dots.{wideOf, levelOf}
 use Rattle.host.specs.declared.Record.{Record}
-use Rattle.host.specs.Record.{headerOf, recordOf, soundOf, whenSound}
+use Rattle.host.specs.Record.{headerOf, recordOf, free, soundOf, whenSound}
 use Rattle.faults.specs.declared.Answer.the-variants.{Read, Refused}
 use Rattle.faults.specs.Faults.{faultsChecked, faultByte, bitSet, isSet, testedFromNarrow, testedFromWide, testedFrom, isDim, hasDot, lampReading, reading, readings, someBelow, isFaulty, someFaulty, opensAgree, shortsAgree, answerNumbers, answered, faultsAnswer, faultsResult}
 
@@ -24,8 +24,8 @@ module _ (r : Record) (sound : soundOf r ≡ true) where
   checks = rw sound (refl, refl, refl, refl)
 
 -- "checks 14 first, and 1 never occurs there": a record of member 5, with 66 bytes and a buffer of 197, which stays
-member-5 : (answerNumbers (faultsAnswer (recordOf (headerOf 5 0 0) [] []) (replicate 66 0x00) (replicate 197 0xA5)) ≡ 14 ∷ [])
-    × (faultsResult (recordOf (headerOf 5 0 0) [] []) (replicate 66 0x00) (replicate 197 0xA5) ≡ replicate 197 0xA5)
+member-5 : (answerNumbers (faultsAnswer (recordOf (headerOf 5 0 0 free) [] []) (replicate 66 0x00) (replicate 197 0xA5)) ≡ 14 ∷ [])
+    × (faultsResult (recordOf (headerOf 5 0 0 free) [] []) (replicate 66 0x00) (replicate 197 0xA5) ≡ replicate 197 0xA5)
 unfolding faultsAnswer faultsResult faultsChecked whenSound soundOf opens openAnswer answered answerNumbers
 member-5 = (refl, refl)
 
@@ -58,8 +58,8 @@ readings-of-lp5867 = refl
 
 -- "in the chip image, in the chip image's data mode": not the settings, which have levels of 8 bits here; and "by dot number" in "the first 198
 -- bytes", those behind them stay
-by-the-image : (take 5 (readings (recordOf (headerOf 0 0 0) (levels 0x5A) (levels 0x5E)) (bytes 0x03) (replicate 200 0xA5)) ≡ 1 ∷ 2 ∷ 3 ∷ 5 ∷ 0 ∷ [])
-    × (drop 196 (readings (recordOf (headerOf 0 0 0) (levels 0x5A) (levels 0x5E)) (bytes 0x03) (replicate 200 0xA5)) ≡ 0x05 ∷ 0x03 ∷ 0xA5 ∷ 0xA5 ∷ [])
+by-the-image : (take 5 (readings (recordOf (headerOf 0 0 0 free) (levels 0x5A) (levels 0x5E)) (bytes 0x03) (replicate 200 0xA5)) ≡ 1 ∷ 2 ∷ 3 ∷ 5 ∷ 0 ∷ [])
+    × (drop 196 (readings (recordOf (headerOf 0 0 0 free) (levels 0x5A) (levels 0x5E)) (bytes 0x03) (replicate 200 0xA5)) ≡ 0x05 ∷ 0x03 ∷ 0xA5 ∷ 0xA5 ∷ [])
 unfolding readings filled reading hasDot isSet bitSet faultByte isDim testedFrom testedFromNarrow testedFromWide levelOf wideOf isWide dataMode lampReading addressOf shiftOf numberIn dotIn linesOf columnsOf hasColumn bytes levels
 by-the-image = (refl, refl)
 

@@ -18,7 +18,7 @@ use Rattle.map.specs.declared.refusals.Answer.{Answer}
 use Rattle.map.specs.declared.refusals.Answer.the-variants.{Accepted, Refused}
 use Rattle.map.specs.declared.refusals.Numbers.{Numbers}
 use Rattle.map.specs.declared.refusals.Refusal.{Refusal}
-use Rattle.map.specs.declared.refusals.Refusal.the-variants.{NotWritable, ReservedBit, Level, Unsound}
+use Rattle.map.specs.declared.refusals.Refusal.the-variants.{NotWritable, ReservedBit, Level, Unsound, Locked}
 use Rattle.map.specs.Refusals.{answerNumber, numbersOf, accepted, openAnswer, opens}
 use Rattle.map.specs.RefusalLaws.{opens-member, opens-bus, opens-pins}
 use Rattle.map.specs.Map.{linesOf, columnsOf, numberIn, kindOf, reservedAs, reservedOf, writableOf, resetAs, resetOf, isDot, dotNumber, widthOf}
@@ -36,7 +36,7 @@ use Rattle.host.specs.declared.Header.{Header}
 use Rattle.host.specs.declared.Record.{Record}
 use Rattle.host.specs.declared.Changed.{Changed}
 use Rattle.host.specs.RecordLaws.{passed, setting-taken, register-taken, lamp-taken, field-taken, scene-taken}
-use Rattle.host.specs.Record.{recordOf, soundOf, opened, openHost, openOf, soundAnswer, whenSound, powerLostOf, registerAnswer, whenDot, lampAnswer}
+use Rattle.host.specs.Record.{recordOf, soundOf, free, locked, markedAs, lockKeeps, marksOk, opened, openHost, openOf, soundAnswer, whenSound, chipReset, powerLostOf, lockAnswer, lockOf, registerAnswer, whenDot, lampAnswer}
 use Rattle.host.specs.Record.{sceneWord, sceneCount, sceneDot, sceneLevel, sceneHasDot, sceneFits, sceneSized, putScene}
 use Rattle.host.specs.Record.{argumentsAnswer, settingAnswer, settingNumbers, putSetting}
 
@@ -54,12 +54,16 @@ module _ (h : Header) (settings image : List ℕ) where
 
   pub settings-fail : imageOk (h .member) settings ≡ false → soundOf (recordOf h settings image) ≡ false
   unfolding soundOf
-  settings-fail e = and-no (opens (h .member) (h .bus) (h .pins)) (imageOk (h .member) settings && imageOk (h .member) image) (rw e refl)
+  settings-fail e = and-no (opens (h .member) (h .bus) (h .pins)) _ (rw e refl)
 
-  pub image-decides : (r : Bool) → opens (h .member) (h .bus) (h .pins) ≡ true → imageOk (h .member) settings ≡ true → r ≡ imageOk (h .member) image →
-      soundOf (recordOf h settings image) ≡ r
+  pub image-fails : imageOk (h .member) image ≡ false → soundOf (recordOf h settings image) ≡ false
   unfolding soundOf
-  image-decides r o s e = rw (o, s) (sym e)
+  image-fails e = and-no (opens (h .member) (h .bus) (h .pins)) _ (and-no (imageOk (h .member) settings) _ (rw e refl))
+
+  pub marks-decide : (r : Bool) → opens (h .member) (h .bus) (h .pins) ≡ true → imageOk (h .member) settings ≡ true → imageOk (h .member) image ≡ true →
+      r ≡ marksOk (recordOf h settings image) → soundOf (recordOf h settings image) ≡ r
+  unfolding soundOf
+  marks-decide r o s i e = rw (o, s, i) (sym e)
 
 pub is-accepted : (m b p : ℕ) (answer : Answer) → answer ≡ openAnswer m b p → answer ≡ Accepted → opens m b p ≡ true
 unfolding opens
@@ -82,18 +86,23 @@ module _ (h : Header) (a v mask : ℕ) (em : mask ≡ reservedOf (h .member) a) 
   unfolding registerAnswer writableOf
   not-writable l = rw (sym em, le-ltb mask 255 l) refl
 
-  pub value-wide : mask < 255 → 255 < v → Refused ReservedBit ≡ registerAnswer h a v
-  unfolding registerAnswer writableOf okByte
-  value-wide l w = rw (sym em, lt-ltb mask 255 l, le-ltb v 256 (omega arith)) refl
+  pub is-locked-out : mask < 255 → lockKeeps h a ≡ true → Refused Locked ≡ registerAnswer h a v
+  unfolding registerAnswer writableOf
+  is-locked-out l k = rw (sym em, lt-ltb mask 255 l, k) refl
 
-  module _ (reset : ℕ) (l : mask < 255) (hv : v < 256) (er : reset ≡ resetOf (h .member) a) where
-    pub bit-differs : (bitAnd v mask ≡ bitAnd reset mask → ⊥) → Refused ReservedBit ≡ registerAnswer h a v
-    unfolding registerAnswer writableOf
-    bit-differs n = rw (ok-masked (h .member) a v mask reset hv (sym em) (sym er), sym em, lt-ltb mask 255 l, ne-eqb _ _ n) refl
+  module _ (l : mask < 255) (k : lockKeeps h a ≡ false) where
+    pub value-wide : 255 < v → Refused ReservedBit ≡ registerAnswer h a v
+    unfolding registerAnswer writableOf okByte
+    value-wide w = rw (sym em, lt-ltb mask 255 l, k, le-ltb v 256 (omega arith)) refl
 
-    pub bits-kept : bitAnd v mask ≡ bitAnd reset mask → Accepted ≡ registerAnswer h a v
-    unfolding registerAnswer writableOf
-    bits-kept e = rw (ok-masked (h .member) a v mask reset hv (sym em) (sym er), sym em, lt-ltb mask 255 l, eq-eqb _ _ e) refl
+    module _ (reset : ℕ) (hv : v < 256) (er : reset ≡ resetOf (h .member) a) where
+      pub bit-differs : (bitAnd v mask ≡ bitAnd reset mask → ⊥) → Refused ReservedBit ≡ registerAnswer h a v
+      unfolding registerAnswer writableOf
+      bit-differs n = rw (ok-masked (h .member) a v mask reset hv (sym em) (sym er), sym em, lt-ltb mask 255 l, k, ne-eqb _ _ n) refl
+
+      pub bits-kept : bitAnd v mask ≡ bitAnd reset mask → Accepted ≡ registerAnswer h a v
+      unfolding registerAnswer writableOf
+      bits-kept e = rw (ok-masked (h .member) a v mask reset hv (sym em) (sym er), sym em, lt-ltb mask 255 l, k, eq-eqb _ _ e) refl
 
 -- ---- a setting
 
@@ -150,11 +159,25 @@ whole-image answer image new h = go (accepted answer)
     go true = rw (eq-eqb (length image) 908 h) refl
     go false = refl
 
-pub lost-is : (r : Record) (x : Answer) (n : Numbers) (image : List ℕ) → x ≡ soundAnswer r → n ≡ numbersOf (answerNumber x ∷ []) →
-    image ≡ cond (accepted x) (resetImage (r .header .member)) (r .image) →
-    _≡_ {A = Changed} (record { answer = x; numbers = n; host = recordOf (r .header) (r .settings) image }) (powerLostOf r)
+pub lost-is : (r : Record) (x : Answer) (n : Numbers) (h : Header) (image : List ℕ) → x ≡ soundAnswer r → n ≡ numbersOf (answerNumber x ∷ []) →
+    h ≡ cond (accepted x) (markedAs (r .header) free) (r .header) → image ≡ cond (accepted x) (resetImage (r .header .member)) (r .image) →
+    _≡_ {A = Changed} (record { answer = x; numbers = n; host = recordOf h (r .settings) image }) (powerLostOf r)
 unfolding powerLostOf
-lost-is r x n image e en q = rw (q, en, e) refl
+lost-is r x n h image e en eh q = rw (eh, q, en, e) (ap (λ (y : Record). record { answer = soundAnswer r; numbers = numbersOf (answerNumber (soundAnswer r) ∷ []); host = y }) (go (accepted (soundAnswer r))))
+  where
+    go : (b : Bool) → recordOf (cond b (markedAs (r .header) free) (r .header)) (r .settings) (cond b (resetImage (r .header .member)) (r .image)) ≡ cond b (chipReset r) r
+    go true = refl
+    go false = refl
+
+pub lock-is : (r : Record) (x : Answer) (n : Numbers) (h : Header) → x ≡ lockAnswer r → n ≡ numbersOf (answerNumber x ∷ []) →
+    h ≡ cond (accepted x) (markedAs (r .header) locked) (r .header) →
+    _≡_ {A = Changed} (record { answer = x; numbers = n; host = recordOf h (r .settings) (r .image) }) (lockOf r)
+unfolding lockOf
+lock-is r x n h e en eh = rw (eh, en, e) (ap (λ (y : Record). record { answer = lockAnswer r; numbers = numbersOf (answerNumber (lockAnswer r) ∷ []); host = y }) (go (accepted (lockAnswer r))))
+  where
+    go : (b : Bool) → recordOf (cond b (markedAs (r .header) locked) (r .header)) (r .settings) (r .image) ≡ cond b (recordOf (markedAs (r .header) locked) (r .settings) (r .image)) r
+    go true = refl
+    go false = refl
 
 -- ---- what an accepted setting puts
 

@@ -1,5 +1,6 @@
 pub mod Record
 pub mod RecordLaws
+pub mod LockLaws
 pub mod SoundLaws
 pub mod SettingLaws
 pub mod SceneLaws

@@ -1,15 +1,15 @@
 -- The record and its settings: document 01, "The record and its settings". A call's definition has two parts: its answer, and the
 -- record that it returns with that answer. r is a record, h its header, l a line, s a sink, d a dot's number; `lent` is the bytes
--- of a scene.
+-- of a scene. The lock is that of document 02, Q-5.
 -- Assumes nothing.
-use mathlib.Core.Bool.{Bool, cond, _&&_}
+use mathlib.Core.Bool.{Bool, cond, not, _&&_, _||_}
 use mathlib.Core.List.{List, [], _∷_}
-use Prim.Native.Nat.{ℕ, zero, suc, _+_, _*_}
+use Prim.Native.Nat.{ℕ, zero, suc, _+_, _*_, _%_}
 use lib.Dec.{leb, eqb}
 use lib.ListN.{length, getD, set}
 use Rattle.map.specs.declared.refusals.Answer.{Answer}
 use Rattle.map.specs.declared.refusals.Answer.the-variants.{Accepted, Refused}
-use Rattle.map.specs.declared.refusals.Refusal.the-variants.{NotWritable, ReservedBit, NoDot, Level, GroupOrState, SceneLength, Unsound}
+use Rattle.map.specs.declared.refusals.Refusal.the-variants.{NotWritable, ReservedBit, NoDot, Level, GroupOrState, SceneLength, Unsound, Locked, NotLockable}
 use Rattle.map.specs.declared.dots.Field as fields
 use Rattle.map.specs.Refusals.{answerNumber, numbersOf, accepted, openAnswer, opens}
 use Rattle.map.specs.Map.{linesOf, columnsOf, isDot, numberIn, dotNumber, writableOf}
@@ -24,24 +24,60 @@ use Rattle.host.specs.declared.Changed.{Changed}
 
 -- ---- The record
 
--- "A record holds member, bus, pins": its header
-abbrev pub headerOf : ℕ → ℕ → ℕ → Header
-headerOf m b p = record { member = m; bus = b; pins = p }
+-- "A record holds member, bus, pins", and since Q-5 marks: its header
+abbrev pub headerOf : ℕ → ℕ → ℕ → ℕ → Header
+headerOf m b p marks = record { member = m; bus = b; pins = p; marks = marks }
 
 -- "and two images of 908 bytes: the settings, and the chip as the host believes it."
 abbrev pub recordOf : Header → List ℕ → List ℕ → Record
 recordOf h settings image = record { header = h; settings = settings; image = image }
 
+-- ---- The lock
+
+-- Q-5: "Our assembler trims 003h and 004h to each panel. A record gets a lock over these two": whether an address is one of them
+unfoldable pub isTrim : ℕ → Bool
+isTrim a = eqb a 0x003 || eqb a 0x004
+
+-- bit 0 of the marks says whether the lock is set; there is no other mark
+unfoldable pub isLocked : Header → Bool
+isLocked h = eqb (h .marks % 2) 1
+
+-- the marks of a record without the lock, and with it
+abbrev pub free : ℕ
+free = 0
+
+abbrev pub locked : ℕ
+locked = 1
+
+-- a header with other marks
+abbrev pub markedAs : Header → ℕ → Header
+markedAs h marks = headerOf (h .member) (h .bus) (h .pins) marks
+
+-- whether an address is a locked one
+unfoldable pub lockKeeps : Header → ℕ → Bool
+lockKeeps h a = isTrim a && isLocked h
+
+-- "differs from the settings at 003h or 004h": here the two images do not
+unfoldable pub sameTrims : List ℕ → List ℕ → Bool
+sameTrims settings image = eqb (getD settings 0x003 0) (getD image 0x003 0) && eqb (getD settings 0x004 0) (getD image 0x004 0)
+
+-- "The test of whether an address may be written now looks at the lock": whether an Update, or a rival of it, may write an address of
+-- the record's chip. "An address is writable for a member", and no locked one.
+unfoldable pub mayWrite : Header → ℕ → Bool
+mayWrite h a = writableOf (h .member) a && not (lockKeeps h a)
+
+-- ---- Soundness
+
+-- "a locked record whose images differ at these two is unsound", and so is one with a mark that there is not
+unfoldable pub marksOk : Record → Bool
+marksOk r = leb (r .header .marks) 1 && (not (isLocked (r .header)) || sameTrims (r .settings) (r .image))
+
 -- "It is sound if Open takes its member, bus and pins and both images have reset values in reserved bits and outside the writable
--- addresses."
+-- addresses.", and if its marks are right. "Soundness and 4 still go by the member"
 unfoldable pub soundOf : Record → Bool
 soundOf r =
     opens (r .header .member) (r .header .bus) (r .header .pins)
-    && (imageOk (r .header .member) (r .settings) && imageOk (r .header .member) (r .image))
-
--- whether an Update, or a rival of it, may write an address of the record's chip: "An address is writable for a member"
-unfoldable pub mayWrite : Header → ℕ → Bool
-mayWrite h a = writableOf (h .member) a
+    && (imageOk (r .header .member) (r .settings) && (imageOk (r .header .member) (r .image) && marksOk r))
 
 -- "Every call but Open .. first refuses an unsound record with 14.": Faults too, since document 02, Q-2
 unfoldable pub whenSound : Record → Answer → Answer
@@ -49,9 +85,9 @@ whenSound r answer = cond (soundOf r) answer (Refused Unsound)
 
 -- ---- Open
 
--- "Both images start at reset values."
+-- "Both images start at reset values.", and nothing is locked.
 unfoldable pub opened : ℕ → ℕ → ℕ → Record
-opened m b p = recordOf (headerOf m b p) (resetImage m) (resetImage m)
+opened m b p = recordOf (headerOf m b p free) (resetImage m) (resetImage m)
 
 -- "A refusal returns member 0, bus 0, pins 0 opened."
 unfoldable pub openHost : Answer → ℕ → ℕ → ℕ → Record
@@ -67,11 +103,13 @@ openOf m b p = record {
 
 -- ---- Register
 
--- "4: not writable, above 38Bh included. 5: a reserved bit differs from its reset value."
+-- "4: not writable, above 38Bh included. 5: a reserved bit differs from its reset value." Q-5: "17, Register on a locked address, after 4
+-- and before 5"
 unfoldable pub registerAnswer : Header → ℕ → ℕ → Answer
 registerAnswer h a v =
     cond (writableOf (h .member) a)
-    (cond (okByte (h .member) a v) Accepted (Refused ReservedBit))
+    (cond (lockKeeps h a) (Refused Locked)
+    (cond (okByte (h .member) a v) Accepted (Refused ReservedBit)))
     (Refused NotWritable)
 
 -- ---- Lamp
@@ -198,10 +236,37 @@ sceneOf r bytes = settingOf r Scene bytes
 unfoldable pub soundAnswer : Record → Answer
 soundAnswer r = whenSound r Accepted
 
--- "Power lost: no bytes." "the chip image has reset values and the settings are kept"
+-- "the chip image has reset values and the settings are kept". Q-5: "Reset and Power lost release it": the record after either, where it is
+-- accepted
+abbrev pub chipReset : Record → Record
+chipReset r = recordOf (markedAs (r .header) free) (r .settings) (resetImage (r .header .member))
+
+-- "Power lost: no bytes."
 unfoldable pub powerLostOf : Record → Changed
 powerLostOf r = record {
   answer = soundAnswer r;
   numbers = numbersOf (answerNumber (soundAnswer r) ∷ []);
-  host = recordOf (r .header) (r .settings) (cond (accepted (soundAnswer r)) (resetImage (r .header .member)) (r .image));
+  host = cond (accepted (soundAnswer r)) (chipReset r) r;
+}
+
+-- ---- Lock
+
+-- "Settings or chip are on when bit 0 of 000h in their image is 1."
+unfoldable pub isOn : List ℕ → Bool
+isOn image = eqb (getD image 0x000 0 % 2) 1
+
+-- Q-5: "locking a locked record, or one whose chip image is off or differs from the settings at 003h or 004h": this one is none of these
+unfoldable pub isLockable : Record → Bool
+isLockable r = not (isLocked (r .header)) && (isOn (r .image) && sameTrims (r .settings) (r .image))
+
+-- "Answers: .. 18"
+unfoldable pub lockAnswer : Record → Answer
+lockAnswer r = whenSound r (cond (isLockable r) Accepted (Refused NotLockable))
+
+-- "A record gets a lock .., set by a call of its own, once until it is released": only the mark changes
+unfoldable pub lockOf : Record → Changed
+lockOf r = record {
+  answer = lockAnswer r;
+  numbers = numbersOf (answerNumber (lockAnswer r) ∷ []);
+  host = cond (accepted (lockAnswer r)) (recordOf (markedAs (r .header) locked) (r .settings) (r .image)) r;
 }

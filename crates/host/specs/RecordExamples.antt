@@ -14,7 +14,7 @@ use Rattle.map.specs.Images.{okByte, resetImage}
 use Rattle.host.specs.declared.Record.{Record}
 use Rattle.dots.specs.Dots.{wideOf, topLevel, putLevel, putBits, putField}
 use Rattle.calls.specs.declared.Setting.{Setting}
-use Rattle.host.specs.Record.{headerOf, recordOf, soundOf, whenSound, opened, openHost, openOf, soundAnswer, powerLostOf}
+use Rattle.host.specs.Record.{headerOf, recordOf, isTrim, isLocked, free, lockKeeps, soundOf, whenSound, opened, openHost, openOf, soundAnswer, powerLostOf}
 use Rattle.host.specs.Record.{registerAnswer, whenDot, lampAnswer, fieldAnswer, argumentsAnswer, settingAnswer, putSetting, changedTo, settingOf}
 use Rattle.host.specs.Record.{sceneWord, sceneDot, sceneLevel, sceneSized, sceneHasDot, sceneFits, sceneAnswer, putScene}
 use Rattle.host.specs.Record.{registerOf, lampOf, groupOf, switchOf, sceneOf}
@@ -22,13 +22,13 @@ use Rattle.host.specs.Record.{registerOf, lampOf, groupOf, switchOf, sce
 -- ---- Open
 
 -- "Both images start at reset values."
-accepted-open : openOf 4 0 3 .host ≡ recordOf (headerOf 4 0 3) (resetImage 4) (resetImage 4)
+accepted-open : openOf 4 0 3 .host ≡ recordOf (headerOf 4 0 3 free) (resetImage 4) (resetImage 4)
 unfolding openOf openHost opened openAnswer
 accepted-open = refl
 
 -- "A refusal returns member 0, bus 0, pins 0 opened.", whatever was refused
 lp5860 : Record
-lp5860 = recordOf (headerOf 0 0 0) (resetImage 0) (resetImage 0)
+lp5860 = recordOf (headerOf 0 0 0 free) (resetImage 0) (resetImage 0)
 
 refused-open : (openOf 5 0 0 .host ≡ lp5860) × (openOf 4 2 0 .host ≡ lp5860) × (openOf 4 1 1 .host ≡ lp5860)
 unfolding openOf openHost opened openAnswer lp5860
@@ -51,7 +51,7 @@ module _ (r : Record) (sound : soundOf r ≡ true) (member : r .header .member �
   -- "4: not writable, above 38Bh included. 5: a reserved bit differs from its reset value."
   register-answers : (answerNumber (registerOf r 0x0AA 0xFF .answer) ≡ 4) × (answerNumber (registerOf r 0x38C 0x00 .answer) ≡ 4)
       × (answerNumber (registerOf r 0x000 0x02 .answer) ≡ 5) × (answerNumber (registerOf r 0x000 0x01 .answer) ≡ 0) × (answerNumber (registerOf r 0x38B 0xFF .answer) ≡ 0)
-  unfolding settingOf changedTo settingAnswer argumentsAnswer putSetting registerAnswer whenSound okByte writableOf reservedOf reservedAs kindOf
+  unfolding settingOf changedTo settingAnswer argumentsAnswer putSetting registerAnswer lockKeeps isTrim whenSound okByte writableOf reservedOf reservedAs kindOf
       linesOf columnsOf hasColumn dotIn numberIn firstMasks firstMask pwmReserved resetOf resetAs firstReset
   register-answers = rw (sound, member) (refl, refl, refl, refl, refl)
 

@@ -19,6 +19,7 @@ use Rattle.host.specs.declared.Record.{Record}
 use Rattle.host.specs.Record.{recordOf, soundOf, whenSound, whenDot, lampAnswer, argumentsAnswer, settingAnswer, putSetting, settingOf}
 use Rattle.host.specs.Record.{sceneCount, sceneDot, sceneLevel, sceneHasDot, sceneFits, putScene, sceneOf}
 use Rattle.host.specs.RecordLaws.{setting-taken, lamp-taken, SceneTaken, scene-taken}
+use Rattle.host.specs.LockLaws.{scene-marks}
 use Rattle.host.specs.SoundLaws.{Sound, sound-is, is-sound, scene-image}
 use Rattle.host.specs.SettingLaws.{setting-sets}
 
@@ -56,7 +57,12 @@ module _ (r : Record) (bytes : List ℕ) (t : accepted (settingAnswer r Scene by
   part-sound : (k : ℕ) → k ≤ sceneCount bytes → soundOf (part k) ≡ true
   part-sound k h =
       let s : Sound r = sound-is r (setting-taken r Scene bytes t .0) in
-      is-sound (part k) (record { opened = s .opened; settings = scene-image m (r .settings) bytes (sceneCount bytes) (s .settings) (taken .dots) k h; image = s .image })
+      is-sound (part k) (record {
+        opened = s .opened;
+        settings = scene-image m (r .settings) bytes (sceneCount bytes) (s .settings) (taken .dots) k h;
+        image = s .image;
+        marks = scene-marks (r .header) (r .settings) (r .image) (s .marks) bytes k;
+      })
 
   entry-taken : (k : ℕ) → k < sceneCount bytes → accepted (settingAnswer (part k) (entryLamp bytes k) []) ≡ true
   unfolding settingAnswer argumentsAnswer lampAnswer whenDot whenSound sceneHasDot sceneFits numberIn isDot

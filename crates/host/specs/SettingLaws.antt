@@ -12,7 +12,6 @@ use Rattle.map.specs.Refusals.{accepted}
 use Rattle.map.specs.Map.{dotNumber, widthOf}
 use Rattle.map.specs.MapLaws.{lines-most, dot-line, dot-sink}
 use Rattle.map.specs.PlaceLaws.{dot-number, place-below}
-use Rattle.map.specs.Images.{resetImage}
 use Rattle.dots.specs.Dots.{levelOf, putField, fieldOf}
 use Rattle.dots.specs.DotLaws.{level-reads-back, field-reads-back}
 use Rattle.dots.specs.DotImages.{group-width, switch-width}
@@ -20,7 +19,7 @@ use Rattle.calls.specs.declared.Setting.{Setting}
 use Rattle.calls.specs.declared.Setting.the-variants.{Lamp, Group, Switch}
 use Rattle.host.specs.declared.Record.{Record}
 use Rattle.host.specs.declared.Changed.{Changed}
-use Rattle.host.specs.Record.{recordOf, soundOf, lampOf, groupOf, switchOf, argumentsAnswer, settingAnswer, putSetting, changedTo, settingOf, soundAnswer, powerLostOf, fieldAnswer}
+use Rattle.host.specs.Record.{recordOf, locked, markedAs, soundOf, lampOf, groupOf, switchOf, argumentsAnswer, settingAnswer, putSetting, changedTo, settingOf, soundAnswer, chipReset, powerLostOf, lockAnswer, lockOf, fieldAnswer}
 use Rattle.host.specs.RecordLaws.{setting-taken, lamp-taken, field-taken}
 use Rattle.host.specs.SoundLaws.{sound-is}
 
@@ -37,14 +36,23 @@ module _ (r : Record) where
   unfolding settingOf changedTo
   setting-sets q lent = record { answered = refl; accepts = λ e. rw e refl; refuses = λ e. rw e refl }
 
-  -- Power lost: "the chip image has reset values and the settings are kept"
-  pub power-loses : accepted (soundAnswer r) ≡ true → powerLostOf r .host ≡ recordOf (r .header) (r .settings) (resetImage (r .header .member))
+  -- Power lost: "the chip image has reset values and the settings are kept", and the lock is released
+  pub power-loses : accepted (soundAnswer r) ≡ true → powerLostOf r .host ≡ chipReset r
   unfolding powerLostOf
   power-loses e = rw e refl
 
   pub power-refuses : accepted (soundAnswer r) ≡ false → powerLostOf r .host ≡ r
   unfolding powerLostOf
   power-refuses e = rw e refl
+
+  -- Lock: only the mark changes
+  pub lock-locks : accepted (lockAnswer r) ≡ true → lockOf r .host ≡ recordOf (markedAs (r .header) locked) (r .settings) (r .image)
+  unfolding lockOf
+  lock-locks e = rw e refl
+
+  pub lock-refuses : accepted (lockAnswer r) ≡ false → lockOf r .host ≡ r
+  unfolding lockOf
+  lock-refuses e = rw e refl
 
 -- ---- an accepted call is read back
 

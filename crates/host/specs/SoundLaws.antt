@@ -19,9 +19,10 @@ use Rattle.calls.specs.declared.Setting.{Setting}
 use Rattle.calls.specs.declared.Setting.the-variants.{Register, Lamp, Group, Switch, Scene}
 use Rattle.host.specs.declared.Header.{Header}
 use Rattle.host.specs.declared.Record.{Record}
-use Rattle.host.specs.Record.{soundOf, opened, openHost, openOf, sceneCount, sceneDot, sceneLevel, sceneHasDot, putScene}
-use Rattle.host.specs.Record.{argumentsAnswer, settingAnswer, putSetting, changedTo, settingOf, soundAnswer, powerLostOf}
+use Rattle.host.specs.Record.{headerOf, recordOf, free, locked, markedAs, marksOk, soundOf, opened, openHost, openOf, sceneCount, sceneDot, sceneLevel, sceneHasDot, putScene}
+use Rattle.host.specs.Record.{argumentsAnswer, settingAnswer, putSetting, changedTo, settingOf, soundAnswer, chipReset, powerLostOf, lockAnswer, lockOf}
 use Rattle.host.specs.RecordLaws.{setting-taken, register-taken, lamp-taken, field-taken, scene-taken}
+use Rattle.host.specs.LockLaws.{Marks, marks-are, are-marks, setting-marks, free-marks, lock-taken}
 
 -- ---- the property
 
@@ -30,27 +31,37 @@ pub record Sound (r : Record) : Type 0 where
   pub opened : opens (r .header .member) (r .header .bus) (r .header .pins) ≡ true
   pub settings : Image (r .header .member) (r .settings)
   pub image : Image (r .header .member) (r .image)
+  pub marks : Marks (r .header) (r .settings) (r .image)
 
 pub sound-is : (r : Record) → soundOf r ≡ true → Sound r
 unfolding soundOf
 sound-is r e =
     let m : ℕ = r .header .member in
-    let i = and-right (opens m (r .header .bus) (r .header .pins)) (imageOk m (r .settings) && imageOk m (r .image)) e in
+    let i = and-right (opens m (r .header .bus) (r .header .pins)) (imageOk m (r .settings) && (imageOk m (r .image) && marksOk r)) e in
+    let k = and-right (imageOk m (r .settings)) (imageOk m (r .image) && marksOk r) i in
     record {
       opened = and-left (opens m (r .header .bus) (r .header .pins)) _ e;
       settings = image-ok m (r .settings) (and-left (imageOk m (r .settings)) _ i);
-      image = image-ok m (r .image) (and-right (imageOk m (r .settings)) (imageOk m (r .image)) i);
+      image = image-ok m (r .image) (and-left (imageOk m (r .image)) _ k);
+      marks = marks-are (r .header) (r .settings) (r .image) (and-right (imageOk m (r .image)) (marksOk r) k);
     }
 
 pub is-sound : (r : Record) → Sound r → soundOf r ≡ true
 unfolding soundOf
-is-sound r s = rw (s .opened, ok-image (r .header .member) (r .settings) (s .settings), ok-image (r .header .member) (r .image) (s .image)) refl
+is-sound r s =
+    rw (s .opened, ok-image (r .header .member) (r .settings) (s .settings), ok-image (r .header .member) (r .image) (s .image))
+    (are-marks (r .header) (r .settings) (r .image) (s .marks))
 
 -- ---- Open
 
 pub opened-sound : (m b p : ℕ) → opens m b p ≡ true → Sound (opened m b p)
 unfolding opened
-opened-sound m b p o = record { opened = o; settings = reset-image m (opens-member m b p o); image = reset-image m (opens-member m b p o) }
+opened-sound m b p o = record {
+  opened = o;
+  settings = reset-image m (opens-member m b p o);
+  image = reset-image m (opens-member m b p o);
+  marks = free-marks (headerOf m b p free) (resetImage m) (resetImage m) refl;
+}
 
 first-opens : opens 0 0 0 ≡ true
 unfolding opens openAnswer
@@ -107,12 +118,39 @@ setting-sound r q lent s = record {
   settings = chosen (r .header .member) (accepted (settingAnswer r q lent)) (putSetting (r .settings) q lent) (r .settings)
       (λ t. setting-image (r .header) (r .settings) (s .settings) q lent (setting-taken r q lent t .1)) (s .settings);
   image = s .image;
+  marks = go (accepted (settingAnswer r q lent)) refl;
 }
+  where
+    go : (b : Bool) → accepted (settingAnswer r q lent) ≡ b → Marks (r .header) (cond b (putSetting (r .settings) q lent) (r .settings)) (r .image)
+    go true e = setting-marks (r .header) (r .settings) (r .image) (s .marks) q lent (setting-taken r q lent e .1)
+    go false e = s .marks
+
+-- the record after an accepted Reset or Power lost
+pub reset-sound : (r : Record) → Sound r → Sound (chipReset r)
+reset-sound r s = record {
+  opened = s .opened;
+  settings = s .settings;
+  image = reset-image (r .header .member) (s .settings .member);
+  marks = free-marks (markedAs (r .header) free) (r .settings) (resetImage (r .header .member)) refl;
+}
+
+-- a choice of records
+pub chosen-sound : (b : Bool) (new old : Record) → (b ≡ true → Sound new) → Sound old → Sound (cond b new old)
+chosen-sound true new old f s = f refl
+chosen-sound false new old f s = s
 
 pub power-sound : (r : Record) → Sound r → Sound (powerLostOf r .host)
 unfolding powerLostOf
-power-sound r z = record {
-  opened = z .opened;
-  settings = z .settings;
-  image = chosen (r .header .member) (accepted (soundAnswer r)) (resetImage (r .header .member)) (r .image) (λ t. reset-image (r .header .member) (z .settings .member)) (z .image);
-}
+power-sound r s = chosen-sound (accepted (soundAnswer r)) (chipReset r) r (λ t. reset-sound r s) s
+
+pub lock-sound : (r : Record) → Sound r → Sound (lockOf r .host)
+unfolding lockOf
+lock-sound r s = chosen-sound (accepted (lockAnswer r)) (recordOf (markedAs (r .header) locked) (r .settings) (r .image)) r lock s
+  where
+    lock : accepted (lockAnswer r) ≡ true → Sound (recordOf (markedAs (r .header) locked) (r .settings) (r .image))
+    lock e = record {
+      opened = s .opened;
+      settings = s .settings;
+      image = s .image;
+      marks = record { most = omega arith; trims = λ l. lock-taken r e .trims };
+    }

@@ -5,6 +5,7 @@ ghost use lib.Dec.{leb};
 ghost use Rattle.map.specs.declared.refusals.Answer.the-variants.{Accepted, Refused};
 ghost use Rattle.host.specs.Record.{recordOf, soundOf, soundAnswer, registerAnswer, whenDot, argumentsAnswer, settingAnswer};
 use crate::Header;
+use crate::locks;
 use crate::scenes;
 use calls::Setting;
 use map::Answer;
@@ -22,7 +23,10 @@ pub fn sound_parts<'a>(header: Header, settings: &'a [u8], image: &'a [u8]) -> b
     if !images::image_ok(member, settings) {
         return false;
     }
-    images::image_ok(member, image)
+    if !images::image_ok(member, image) {
+        return false;
+    }
+    locks::marks_ok(header, settings, image)
 }
 
 // What a call answers that refuses an unsound record and nothing else.
@@ -35,8 +39,8 @@ pub fn sound_answer<'a>(header: Header, settings: &'a [u8], image: &'a [u8]) -> 
     Answer::Accepted
 }
 
-// A byte is refused for an address with no writable bit, or for a reserved bit that is not the reset value's; a value above 255 has
-// bits that no register has.
+// A byte is refused for an address with no writable bit, for a locked address, or for a reserved bit that is not the reset value's; a
+// value above 255 has bits that no register has.
 fn register(header: Header, address: usize, value: usize) -> Answer
     ensures { λ r. ⌜ r ≡ registerAnswer header address value ⌝ }
 {
@@ -47,6 +51,9 @@ fn register(header: Header, address: usize, value: usize) -> Answer
     let mask = map::reserved_as(kind, member, lines, columns, address);
     if 255 <= mask {
         return Answer::Refused(Refusal::NotWritable);
+    }
+    if locks::lock_keeps(header, address) {
+        return Answer::Refused(Refusal::Locked);
     }
     if 255 < value {
         return Answer::Refused(Refusal::ReservedBit);

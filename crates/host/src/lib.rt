@@ -1,22 +1,26 @@
 // The host's record of one chip, and the calls that set it.
 //
-// A record has a header, its member, bus and pins, and two images of 908 bytes: the settings, and the chip as the host believes it. It
-// goes into each call by value and comes back with the call's answer. A call first refuses an unsound record, then checks its
+// A record has a header, its member, bus, pins and marks, and two images of 908 bytes: the settings, and the chip as the host believes
+// it. It goes into each call by value and comes back with the call's answer. A call first refuses an unsound record, then checks its
 // arguments in the order of its refusals, and a refusal gives the record back unchanged. A setting changes the settings alone;
-// nothing reaches the chip before an update.
+// nothing reaches the chip before an update. A lock keeps the two factory-set registers until a reset or a power loss.
 //
 // Each call by value is a few lines over functions on the header and the lent images (`setting_answer`, `put_setting`, `sound_answer`,
-// `put_lost`), which a caller uses that keeps its record elsewhere. They take images of any length: another than 908 is unsound.
+// `put_lost`, `lock_answer`), which a caller uses that keeps its record elsewhere. They take images of any length: another than 908 is unsound.
 mod answers;
+mod locks;
 mod scenes;
 mod store;
 
 ghost use mathlib.Core.Path.{_≡_};
-ghost use Rattle.host.specs.Record.{soundOf, openOf, settingOf, registerOf, lampOf, groupOf, switchOf, sceneOf, powerLostOf};
+ghost use Rattle.host.specs.Record.{soundOf, openOf, settingOf, registerOf, lampOf, groupOf, switchOf, sceneOf, powerLostOf, lockOf};
 pub use answers::setting_answer;
 pub use answers::sound_answer;
 pub use answers::sound_parts;
 use calls::Setting;
+pub use locks::lock_answer;
+pub use locks::lock_keeps;
+pub use locks::with_marks;
 use map::Answer;
 use map::Numbers;
 pub use store::put_lost;
@@ -27,6 +31,7 @@ pub struct Header {
     pub member: u8,
     pub bus: u8,
     pub pins: u8,
+    pub marks: u8,
 }
 
 pub struct Record {
@@ -42,8 +47,8 @@ pub struct Changed {
     pub host: Record,
 }
 
-// Whether Open takes the record's member, bus and pins, and both images have reset values in reserved bits and outside the
-// writable addresses.
+// Whether Open takes the record's member, bus and pins, both images have reset values in reserved bits and outside the writable
+// addresses, and the marks are right.
 pub fn sound(r: Record) -> bool
     ensures { λ x. ⌜ x ≡ soundOf r ⌝ }
 {
@@ -131,13 +136,29 @@ pub fn scene(r: Record, bytes: &[u8]) -> Changed
     set(r, Setting::Scene, bytes)
 }
 
-// The chip has lost its power, so that it holds its reset values. The settings are kept.
+// The chip has lost its power, so that it holds its reset values. The settings are kept, and a lock is released.
 pub fn power_lost(mut r: Record) -> Changed
     ensures { λ x. ⌜ x ≡ powerLostOf r ⌝ }
 {
     let header = r.header;
     let answer = sound_answer(header, &r.settings, &r.image);
     store::lose_own(answer, header, &mut r.image);
+    r.header = locks::marked(answer, header, locks::FREE);
+    Changed {
+        answer: answer,
+        numbers: map::answer_numbers(answer),
+        host: r,
+    }
+}
+
+// Lock the factory-set registers 003h and 004h, where the chip is on and has the settings of both. Until an accepted reset or power loss
+// neither can be set, and no update writes them.
+pub fn lock(mut r: Record) -> Changed
+    ensures { λ x. ⌜ x ≡ lockOf r ⌝ }
+{
+    let header = r.header;
+    let answer = lock_answer(header, &r.settings, &r.image);
+    r.header = locks::marked(answer, header, locks::LOCKED);
     Changed {
         answer: answer,
         numbers: map::answer_numbers(answer),

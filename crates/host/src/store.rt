@@ -12,6 +12,7 @@ ghost use Rattle.dots.specs.Dots.{putLevel};
 ghost use Rattle.host.specs.Record.{recordOf, opened, openHost, settingAnswer, settingNumbers, putSetting};
 use crate::Header;
 use crate::Record;
+use crate::locks::FREE;
 use crate::scenes;
 use calls::Setting;
 use map::Answer;
@@ -27,6 +28,7 @@ fn new_record(member: usize, bus: usize, pins: usize) -> Record
         member: member as u8,
         bus: bus as u8,
         pins: pins as u8,
+        marks: FREE,
     };
     Record {
         header: header,

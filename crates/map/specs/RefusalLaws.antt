@@ -13,7 +13,7 @@ use lib.ListN.{length, take}
 use lib.Seq.{take-all, take-nil}
 use Rattle.map.specs.declared.refusals.Answer.{Answer}
 use Rattle.map.specs.declared.refusals.Refusal.{Refusal}
-use Rattle.map.specs.declared.refusals.Refusal.the-variants.{Member, Bus, Pins, NotWritable, ReservedBit, NoDot, Level, GroupOrState, SceneLength, BufferShort, ListSizes, FaultLength, Unsound, RoundLimit, NotItsPlace, NoTransaction}
+use Rattle.map.specs.declared.refusals.Refusal.the-variants.{Member, Bus, Pins, NotWritable, ReservedBit, NoDot, Level, GroupOrState, SceneLength, BufferShort, ListSizes, FaultLength, Unsound, RoundLimit, NotItsPlace, Locked, NotLockable, NoTransaction}
 use Rattle.map.specs.declared.refusals.Answer.the-variants.{Accepted, Refused}
 use Rattle.map.specs.Refusals.{refusalNumber, answerNumber, numbersIn, numbersOf, openAnswer, opens}
 
@@ -47,6 +47,8 @@ refusal-small FaultLength = omega arith
 refusal-small Unsound = omega arith
 refusal-small RoundLimit = omega arith
 refusal-small NotItsPlace = omega arith
+refusal-small Locked = omega arith
+refusal-small NotLockable = omega arith
 refusal-small NoTransaction = omega arith
 
 pub answer-small : (answer : Answer) → answerNumber answer < 100

@@ -1,4 +1,4 @@
--- The number of each refusal: 1 to 14 as document 01 gives them (there is no 12), 15 and 16 as document 02 does, and 26; the answers
+-- The number of each refusal: 1 to 14 as document 01 gives them (there is no 12), 15 to 18 as document 02 does, and 26; the answers
 -- that are no more than such a number, the numbers of any answer, and what Open answers.
 -- Assumes nothing.
 use mathlib.Core.Bool.{Bool, true, false, cond, _&&_, _||_}
@@ -10,7 +10,7 @@ use Rattle.map.specs.declared.refusals.Answer.{Answer}
 use Rattle.map.specs.declared.refusals.Answer.the-variants.{Accepted, Refused}
 use Rattle.map.specs.declared.refusals.Numbers.{Numbers}
 use Rattle.map.specs.declared.refusals.Refusal.{Refusal}
-use Rattle.map.specs.declared.refusals.Refusal.the-variants.{Member, Bus, Pins, NotWritable, ReservedBit, NoDot, Level, GroupOrState, SceneLength, BufferShort, ListSizes, FaultLength, Unsound, RoundLimit, NotItsPlace, NoTransaction}
+use Rattle.map.specs.declared.refusals.Refusal.the-variants.{Member, Bus, Pins, NotWritable, ReservedBit, NoDot, Level, GroupOrState, SceneLength, BufferShort, ListSizes, FaultLength, Unsound, RoundLimit, NotItsPlace, Locked, NotLockable, NoTransaction}
 
 -- "a definition states this paper's number and values for each case of the enum": the number before each refusal's condition
 abbrev pub refusalNumber : Refusal → ℕ
@@ -29,6 +29,8 @@ refusalNumber FaultLength = 13
 refusalNumber Unsound = 14
 refusalNumber RoundLimit = 15
 refusalNumber NotItsPlace = 16
+refusalNumber Locked = 17
+refusalNumber NotLockable = 18
 refusalNumber NoTransaction = 26
 
 -- an accepted call answers 0

@@ -34,6 +34,10 @@ pub enum Refusal {
     RoundLimit,
     // a present record of a round on SPI, or whose pins are not its place
     NotItsPlace,
+    // a register that the record's lock keeps
+    Locked,
+    // a record that is locked, or whose chip is off or has not its settings in the registers that a lock keeps
+    NotLockable,
     // an index of n or more, of a list of n transactions
     NoTransaction,
 }
@@ -57,6 +61,8 @@ pub fn refusal_number(refusal: Refusal) -> u8
         Refusal::Unsound => 14,
         Refusal::RoundLimit => 15,
         Refusal::NotItsPlace => 16,
+        Refusal::Locked => 17,
+        Refusal::NotLockable => 18,
         Refusal::NoTransaction => 26,
     }
 }

@@ -10,6 +10,7 @@ pub mod Cheapest
 pub mod Update
 pub mod PlanExamples
 pub mod UpdateLaws
+pub mod LockLaws
 pub mod Machine
 pub mod Heard
 pub mod Covered

@@ -2,7 +2,7 @@
 -- Assumes nothing.
 use mathlib.Core.Path.{_≡_, refl, sym, ap, ap₂, subst, _∙_}
 use mathlib.Core.Logic.{inl, inr}
-use mathlib.Core.Bool.{Bool, true, false, not, false≢true, true≢false}
+use mathlib.Core.Bool.{Bool, true, false, not, _&&_, false≢true, true≢false}
 use mathlib.Core.List.{List}
 use Prim.Native.Nat.{ℕ, zero, suc, _+_, _-_, _≤_, _<_}
 use native.Mathlib.Decide.{decLt, ℕ-discrete}
@@ -20,8 +20,8 @@ use Rattle.plan.specs.Update.{markAt}
 use Rattle.plan.specs.UpdateLaws.{marks-at}
 use Rattle.plan.specs.NextLaws.{Closed, Extends, extends-more, extends-over, extends-all}
 use Rattle.host.specs.declared.Header.{Header}
-use Rattle.host.specs.Record.{recordOf, mayWrite}
-use Rattle.host.specs.RecordLaws.{may-write}
+use Rattle.host.specs.Record.{recordOf, lockKeeps, mayWrite}
+use Rattle.host.specs.RecordLaws.{not-writable, not-locked}
 use Rattle.writes.specs.declared.scan.Matrix.{Matrix}
 use Rattle.writes.specs.Marks.{chipView, marksOf, matrixOf, Tables, Whole}
 use Rattle.writes.specs.Found.{differsAt, FirstDiffering, DifferTo, Further, WriteEnd, Placed, NextWrite}
@@ -33,14 +33,23 @@ pub matrix-is : (h : Header) (lines columns : ℕ) → lines ≡ linesOf (h .mem
 matrix-is h lines columns el ec = rw (el, ec) refl
 
 pub may-by : (kinds : List ℕ) (matrix : Matrix) (a : ℕ) (k : Kind) (x : ℕ) → k ≡ kindIn kinds a →
-    x ≡ reservedAs k (matrix .header .member) (matrix .lines) (matrix .columns) a → Tables kinds matrix → ltb x 255 ≡ mayWrite (matrix .header) a
-unfolding writableOf reservedOf
-may-by kinds matrix a k x ek ex t =
+    x ≡ reservedAs k (matrix .header .member) (matrix .lines) (matrix .columns) a → lockKeeps (matrix .header) a ≡ false → Tables kinds matrix →
+    ltb x 255 ≡ mayWrite (matrix .header) a
+unfolding writableOf reservedOf mayWrite
+may-by kinds matrix a k x ek ex free t =
     ap (λ (y : ℕ). ltb y 255)
     (ex
     ∙ ap (λ (z : Kind). reservedAs z (matrix .header .member) (matrix .lines) (matrix .columns) a) (ek ∙ kind-in-table kinds a (t .kinds-are))
     ∙ ap (λ (z : Matrix). reservedAs (kindOf a) (matrix .header .member) (z .lines) (z .columns) a) (t .matrix-is))
-    ∙ sym (may-write (matrix .header) a)
+    ∙ rw free (sym (and-true (ltb (reservedAs (kindOf a) (matrix .header .member) (linesOf (matrix .header .member)) (columnsOf (matrix .header .member)) a) 255)))
+  where
+    and-true : (b : Bool) → (b && true) ≡ b
+    and-true true = refl
+    and-true false = refl
+
+-- a locked address may not be written
+pub may-not : (h : Header) (a : ℕ) → lockKeeps h a ≡ true → false ≡ mayWrite h a
+may-not h a k = sym (not-locked h a k)
 
 -- ---- what `differs` says
 
@@ -97,7 +106,7 @@ module _ (h : Header) (settings image : List ℕ) where
       go false q = not-hole a d (hole-at a p q)
 
   past-hole : (a : ℕ) → 908 ≤ a → mark a ≡ hole
-  past-hole a l = hole-at a (omega arith) (may-write h a ∙ go (writableOf (h .member) a) refl)
+  past-hole a l = hole-at a (omega arith) (not-writable h a (go (writableOf (h .member) a) refl))
     where
       go : (w : Bool) → writableOf (h .member) a ≡ w → w ≡ false
       go false e = refl

@@ -29,10 +29,13 @@ pub fn matrix_of(header: Header) -> Matrix
     }
 }
 
-// Whether an address may be written, by the table of kinds.
+// Whether an address may be written: it is no locked one, and by the table of kinds it is writable.
 pub fn may_write(kinds: &[u8], matrix: Matrix, address: usize) -> bool
     ensures { λ r. ⌜ (Tables (now (kinds .entry)) matrix → r ≡ mayWrite (matrix .header) address) ⌝ }
 {
+    if host::lock_keeps(matrix.header, address) {
+        return false;
+    }
     let kind = map::kind_in(kinds, address);
     let member = matrix.header.member as usize;
     let mask = map::reserved_as(kind, member, matrix.lines, matrix.columns, address);

@@ -11,12 +11,22 @@ sound-answer-requires c κs = search needs
 lose-own-requires : tie.Need-lose-own-requires
 lose-own-requires c κs = search needs
 
+marked-requires : tie.Need-marked-requires
+marked-requires c κs = search needs
+
 answer-numbers-requires : tie.Need-answer-numbers-requires
 answer-numbers-requires c κs = search needs
 
 returns : tie.Need-returns
-returns c = lost-is _ _ _ _ (c .before .before .before .sound-answer .ensures) (c .answer-numbers .ensures) (c .before .lose-own .ensures)
+returns c =
+    lost-is _ _ _ _ _ (c .before .before .before .before .sound-answer .ensures) (c .answer-numbers .ensures) (c .before .marked .ensures) (c .before .before .lose-own .ensures)
 
 pub power-lost-spec : {M : Type 1} → statement M
 power-lost-spec =
-    tie.close (tie.spec sound-answer-requires lose-own-requires answer-numbers-requires returns)
+    tie.close
+    (tie.spec
+    sound-answer-requires
+    lose-own-requires
+    marked-requires
+    answer-numbers-requires
+    returns)

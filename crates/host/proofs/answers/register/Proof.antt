@@ -1,6 +1,7 @@
 -- `host::answers::register` meets its contract.
 -- Assumes nothing.
-use Rattle.host.proofs.Steps.{mask-is, reset-is, not-writable, value-wide, bit-differs, bits-kept}
+use mathlib.Core.Path.{sym, _∙_}
+use Rattle.host.proofs.Steps.{mask-is, reset-is, not-writable, is-locked-out, value-wide, bit-differs, bits-kept}
 use borrow.Author.Needs.{needs}
 use Rattle.host.proofs.answers.register.Statement.{statement}
 use Rattle.host.proofs.answers.register.Tie as tie
@@ -28,44 +29,63 @@ returns c =
     (mask-is _ _ _ _ _ _ (kind .kind-at .ensures) (mask .before .before .lines .ensures .0) (mask .before .columns .ensures) (mask .reserved-as .ensures))
     (c .if1 .taken)
 
+lock-keeps-requires : tie.Need-lock-keeps-requires
+lock-keeps-requires c κs = search needs
+
 returns-2 : tie.Need-returns-2
 returns-2 c =
-    let mask = c .before .before in
+    let lock = c .before in
+    let mask = lock .before .before in
+    let kind = mask .before .before .before in
+    is-locked-out _ _ _ _
+    (mask-is _ _ _ _ _ _ (kind .kind-at .ensures) (mask .before .before .lines .ensures .0) (mask .before .columns .ensures) (mask .reserved-as .ensures))
+    (lock .before .if1 .left)
+    (sym (lock .lock-keeps .ensures) ∙ c .if2 .taken)
+
+returns-3 : tie.Need-returns-3
+returns-3 c =
+    let lock = c .before .before in
+    let mask = lock .before .before in
     let kind = mask .before .before .before in
     value-wide _ _ _ _
     (mask-is _ _ _ _ _ _ (kind .kind-at .ensures) (mask .before .before .lines .ensures .0) (mask .before .columns .ensures) (mask .reserved-as .ensures))
-    (c .before .if1 .left)
-    (c .if2 .taken)
+    (lock .before .if1 .left)
+    (sym (lock .lock-keeps .ensures) ∙ c .before .if2 .left)
+    (c .if3 .taken)
 
 reset-as-requires : tie.Need-reset-as-requires
 reset-as-requires c κs = search needs
 
-cast-if3 : tie.Need-cast-if3
-cast-if3 c = search needs
-
-returns-3 : tie.Need-returns-3
-returns-3 c =
-    let mask = c .before .before .before .before in
-    let kind = mask .before .before .before in
-    bits-kept _ _ _ _
-    (mask-is _ _ _ _ _ _ (kind .kind-at .ensures) (mask .before .before .lines .ensures .0) (mask .before .columns .ensures) (mask .reserved-as .ensures))
-    _
-    (c .before .before .before .if1 .left)
-    (search needs)
-    (reset-is _ _ _ _ (kind .kind-at .ensures) (c .before .reset-as .ensures))
-    (c .if3 .taken)
+cast-if4 : tie.Need-cast-if4
+cast-if4 c = search needs
 
 returns-4 : tie.Need-returns-4
 returns-4 c =
-    let mask = c .before .before .before .before in
+    let lock = c .before .before .before .before in
+    let mask = lock .before .before in
+    let kind = mask .before .before .before in
+    bits-kept _ _ _ _
+    (mask-is _ _ _ _ _ _ (kind .kind-at .ensures) (mask .before .before .lines .ensures .0) (mask .before .columns .ensures) (mask .reserved-as .ensures))
+    (lock .before .if1 .left)
+    (sym (lock .lock-keeps .ensures) ∙ c .before .before .before .if2 .left)
+    _
+    (search needs)
+    (reset-is _ _ _ _ (kind .kind-at .ensures) (c .before .reset-as .ensures))
+    (c .if4 .taken)
+
+returns-5 : tie.Need-returns-5
+returns-5 c =
+    let lock = c .before .before .before .before in
+    let mask = lock .before .before in
     let kind = mask .before .before .before in
     bit-differs _ _ _ _
     (mask-is _ _ _ _ _ _ (kind .kind-at .ensures) (mask .before .before .lines .ensures .0) (mask .before .columns .ensures) (mask .reserved-as .ensures))
+    (lock .before .if1 .left)
+    (sym (lock .lock-keeps .ensures) ∙ c .before .before .before .if2 .left)
     _
-    (c .before .before .before .if1 .left)
     (search needs)
     (reset-is _ _ _ _ (kind .kind-at .ensures) (c .before .reset-as .ensures))
-    (c .if3 .left)
+    (c .if4 .left)
 
 pub register-spec : {M : Type 1} → statement M
 register-spec =
@@ -77,8 +97,10 @@ register-spec =
     columns-requires
     reserved-as-requires
     returns
+    lock-keeps-requires
     returns-2
-    reset-as-requires
-    cast-if3
     returns-3
-    returns-4)
+    reset-as-requires
+    cast-if4
+    returns-4
+    returns-5)

@@ -17,7 +17,7 @@ returns : tie.Need-returns
 returns c = simp (c .enum-told .given .1)
 
 returns-2 : tie.Need-returns-2
-returns-2 c = search needs
+returns-2 c = simp (c .refusal-number .ensures, c .before .before .answer .given .1)
 
 pub answer-number-spec : {M : Type 1} → statement M
 answer-number-spec =
