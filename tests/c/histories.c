@@ -303,7 +303,8 @@ static size_t some_list(const struct world *world, uint8_t *list)
 
 /* ---- Calls of the history */
 
-static void check_settings(const struct history *history)
+/* The settings are those of the ledger, and the record is locked or free as the accepted calls say. */
+static void check_record(const struct history *history)
 {
     check(memcmp(history->world.record + SETTINGS, history->ledger.bytes, LP586X_REGISTERS) == 0,
           "the settings are not what the ledger holds");
@@ -669,7 +670,7 @@ static void one_call(struct history *history)
         call_on_damaged(history);
     else
         update_any_images(history);
-    check_settings(history);
+    check_record(history);
 }
 
 static void start(struct history *history)

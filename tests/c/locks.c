@@ -5,7 +5,6 @@
 #include "check.h"
 #include "fewest.h"
 #include "groups.h"
-#include "panels.h"
 #include "reference.h"
 #include "world.h"
 

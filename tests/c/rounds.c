@@ -757,8 +757,8 @@ static void left_over(void)
     expect_list(&again, 5, 4096, then, sizeof then);
 }
 
-/* 002h and 005h differ at each place; places 0 and 2 are locked. There the two are a write each, elsewhere one with 003h and 004h between
- * them, which 13 bytes cut behind 003h: each first portion has 3, and the byte that is left goes to place 1, since no write begins in it. */
+/* 002h and 005h differ at each place; places 0 and 2 are locked. There the two are a write each, elsewhere one write with 003h and 004h
+ * between them. Of 13 bytes each first portion has 3. At place 0 no write fits into the byte that is left; place 1 gets 003h for it. */
 static void locked_places(void)
 {
     static const uint8_t of_13[] = {4,    0,    13,   0,    3,    0,    4,    0,    3,    0,    3,    0,    0x80,

@@ -18,6 +18,8 @@ pub use answers::setting_answer;
 pub use answers::sound_answer;
 pub use answers::sound_parts;
 use calls::Setting;
+pub use locks::FREE;
+pub use locks::LOCKED;
 pub use locks::lock_answer;
 pub use locks::lock_keeps;
 pub use locks::with_marks;

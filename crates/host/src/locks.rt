@@ -10,9 +10,9 @@ use map::Answer;
 use map::Refusal;
 
 // The marks of a record: none, or the lock.
-pub(crate) const FREE: u8 = 0;
+pub const FREE: u8 = 0;
 
-pub(crate) const LOCKED: u8 = 1;
+pub const LOCKED: u8 = 1;
 
 fn is_trim(address: usize) -> bool
     ensures { λ r. ⌜ r ≡ isTrim address ⌝ }

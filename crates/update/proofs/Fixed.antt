@@ -20,12 +20,12 @@ use Rattle.burst.specs.Burst.{headFirst, headSecond, transactionOf, listOf, enc
 use Rattle.burst.specs.BurstLaws.{encode-length}
 use Rattle.host.specs.declared.Header.{Header}
 use Rattle.host.specs.declared.Record.{Record}
-use Rattle.host.specs.Record.{recordOf, soundOf}
+use Rattle.host.specs.Record.{recordOf, free, markedAs, soundOf, chipReset}
 use Rattle.writes.specs.WrittenLaws.{sets-front}
 use Rattle.update.specs.declared.ListAnswer.{ListAnswer}
 use Rattle.update.specs.declared.ListAnswer.the-variants.{Listed, Refused}
-use Rattle.update.specs.Update.{isListed, listNumbers, updateNumbers, listSize, over, sendAnswer, sendOf, sendBuffer, commandWrite, command, resetAnswer, chipResetOf, clearing, clearAnswer, clearOf}
-use Rattle.update.specs.SendLaws.{listed-room, sent-is, clear-leaves}
+use Rattle.update.specs.Update.{isListed, listNumbers, updateNumbers, listSize, over, sendAnswer, sendBuffer, commandWrite, command, resetAnswer, resetting, chipResetOf, clearing, clearAnswer, clearOf}
+use Rattle.update.specs.SendLaws.{listed-room, sent-is}
 
 -- ---- the strings
 
@@ -71,41 +71,54 @@ module _ (answer : ListAnswer) (header : Header) (i2c spi buffer : List ℕ) whe
 module _ (r : Record) (room size : ℕ) where
   -- the answer of a command whose list has so many bytes
   abbrev pub Answers : ListAnswer → Type 0
-  Answers answer = (a : ℕ) (bytes image : List ℕ) → size ≡ listSize (commandWrite a bytes) → answer ≡ sendAnswer r (command a bytes image) room
+  Answers answer = (a : ℕ) (bytes : List ℕ) (host : Record) → size ≡ listSize (commandWrite a bytes) → answer ≡ sendAnswer r (command a bytes host) room
 
   pub command-unsound : soundOf r ≡ false → Answers (Refused Unsound)
   unfolding sendAnswer
-  command-unsound u a bytes image e = rw u refl
+  command-unsound u a bytes host e = rw u refl
 
   pub command-short : soundOf r ≡ true → room < size → Answers (Refused BufferShort)
   unfolding sendAnswer
-  command-short s h a bytes image e = rw (s, lt-leb (listSize (commandWrite a bytes)) room (omega (arith, e))) refl
+  command-short s h a bytes host e = rw (s, lt-leb (listSize (commandWrite a bytes)) room (omega (arith, e))) refl
 
   pub command-listed : soundOf r ≡ true → size ≤ room → Answers (Listed 1 (size - 6))
   unfolding sendAnswer
-  command-listed s h a bytes image e =
+  command-listed s h a bytes host e =
       rw (s, le-leb (listSize (commandWrite a bytes)) room (omega (arith, e))) (ap (Listed 1) (omega (arith, e)))
 
 -- a list is answered only where there is room for it
-module _ (r : Record) (buffer : List ℕ) (answer : ListAnswer) (a : ℕ) (bytes image : List ℕ) (e : answer ≡ sendAnswer r (command a bytes image) (length buffer)) where
+module _ (r : Record) (buffer : List ℕ) (answer : ListAnswer) (a : ℕ) (bytes : List ℕ) (host : Record)
+    (e : answer ≡ sendAnswer r (command a bytes host) (length buffer)) where
   pub has-room : isListed answer ≡ true → listSize (commandWrite a bytes) ≤ length buffer
-  has-room l = listed-room r (command a bytes image) refl (length buffer) (sym (ap isListed e) ∙ l)
+  has-room l = listed-room r (command a bytes host) refl (length buffer) (sym (ap isListed e) ∙ l)
 
   pub command-buffer : (new : List ℕ) →
       new ≡ cond (isListed answer) (over (encode (r .header .bus) (r .header .pins) (commandWrite a bytes)) buffer) buffer →
-      new ≡ sendBuffer r (command a bytes image) buffer
+      new ≡ sendBuffer r (command a bytes host) buffer
   unfolding sendBuffer
   command-buffer new n = n ∙ rw e refl
 
 -- ---- the calls by value
 
 pub clear-is : (r : Record) (size : ℕ) (answer : ListAnswer) → answer ≡ clearAnswer r size → record { answer = answer; host = r } ≡ clearOf r size
-clear-is r size answer e = sent-is r (clearing r) size answer (r .image) e (ap (λ (h : Record). h .image) (sym (clear-leaves r size)))
+clear-is r size answer e = sent-is r (clearing r) size answer r e (sym (either (isListed answer)))
+  where
+    either : (b : Bool) → cond b r r ≡ r
+    either true = refl
+    either false = refl
 
-pub reset-is : (r : Record) (size : ℕ) (answer : ListAnswer) → answer ≡ resetAnswer r size → (image : List ℕ) → image ≡ cond (isListed answer) (resetImage (r .header .member)) (r .image) →
-    record { answer = answer; host = recordOf (r .header) (r .settings) image } ≡ chipResetOf r size
-unfolding sendOf
-reset-is r size answer e image i = rw (i, e) refl
+pub reset-is : (r : Record) (size : ℕ) (answer : ListAnswer) → answer ≡ resetAnswer r size → (h : Header) → h ≡ cond (isListed answer) (markedAs (r .header) free) (r .header) →
+    (image : List ℕ) → image ≡ cond (isListed answer) (resetImage (r .header .member)) (r .image) →
+    record { answer = answer; host = recordOf h (r .settings) image } ≡ chipResetOf r size
+reset-is r size answer e h eh image i = sent-is r (resetting r) size answer (recordOf h (r .settings) image) e (rw (eh, i) (go (isListed answer)))
+  where
+    go : (b : Bool) → recordOf (cond b (markedAs (r .header) free) (r .header)) (r .settings) (cond b (resetImage (r .header .member)) (r .image)) ≡ cond b (chipReset r) r
+    go true = refl
+    go false = refl
+
+pub released : (answer : ListAnswer) (n t : ℕ) (h new : Header) → answer ≡ Listed n t → new ≡ markedAs h free →
+    new ≡ cond (isListed answer) (markedAs h free) h
+released answer n t h new ea e = e ∙ rw ea refl
 
 pub reset-own : (answer : ListAnswer) (n t : ℕ) (image values new : List ℕ) → answer ≡ Listed n t → length image ≡ 908 →
     new ≡ cond (eqb (length image) 908) values image → new ≡ cond (isListed answer) values image

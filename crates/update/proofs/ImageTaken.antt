@@ -1,7 +1,7 @@
 -- What `store_sent` finds in the buffer of an update, and what it stores.
 -- Assumes nothing.
 use mathlib.Core.Path.{_≡_, refl, sym, ap, subst, _∙_}
-use mathlib.Core.Bool.{true, false}
+use mathlib.Core.Bool.{Bool, true, false, cond}
 use mathlib.Core.List.{List, _++_, map}
 use Prim.Native.Nat.{ℕ}
 use lib.ListN.{length, drop}
@@ -101,4 +101,10 @@ module _ (r : Record) (lent buffer : List ℕ) (answer : ListAnswer) (ea : answe
       image ≡ updateOf (recordOf (r .header) settings (r .image)) (length given) .host .image) →
       record { answer = answer; stored = stored; host = recordOf (r .header) (r .settings) image } ≡ updateOf r (length lent)
   unfolding sendOf
-  updated-is stored image fs fi = rw (ea, fs (r .settings) lent sent, fi (r .settings) lent sent) refl
+  updated-is stored image fs fi =
+      rw (ea, fs (r .settings) lent sent, fi (r .settings) lent sent)
+      (ap (λ (x : Record). record { answer = updateAnswer r (length lent); stored = updateStored r (length lent); host = x }) (go (isListed (updateAnswer r (length lent)))))
+    where
+      go : (b : Bool) → recordOf (r .header) (r .settings) (cond b (updating r .host) r .image) ≡ cond b (updating r .host) r
+      go true = refl
+      go false = refl

@@ -178,8 +178,8 @@ module _ (r : Record) (buffer : List ℕ) where
   abbrev pub Outcome : ListAnswer → List ℕ → Type 0
   Outcome answer new = (answer ≡ updateAnswer r (length buffer)) × (new ≡ updateBuffer r buffer)
 
-  outcome : (answer : ListAnswer) (image new : List ℕ) → Leaves r (updating r) buffer answer image new → Outcome answer new
-  outcome answer image new l = (l .answer-is, l .buffer-is)
+  outcome : (answer : ListAnswer) (host : Record) (new : List ℕ) → Leaves r (updating r) buffer answer host new → Outcome answer new
+  outcome answer host new l = (l .answer-is, l .buffer-is)
 
   pub parts-unsound : soundOf r ≡ false → Outcome (Refused Unsound) buffer
   parts-unsound e = outcome _ _ _ (send-unsound r (updating r) buffer e)

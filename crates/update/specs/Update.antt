@@ -9,11 +9,10 @@ use lib.Dec.{leb}
 use lib.ListN.{length, getD, drop}
 use Rattle.map.specs.declared.refusals.Refusal.the-variants.{BufferShort, Unsound}
 use Rattle.map.specs.Refusals.{refusalNumber}
-use Rattle.map.specs.Images.{resetImage}
 use Rattle.burst.specs.Burst.{Burst, busBytes, dataBytes, encode}
 use Rattle.plan.specs.Update.{updateFor, storeAll}
 use Rattle.host.specs.declared.Record.{Record}
-use Rattle.host.specs.Record.{recordOf, soundOf, mayWrite}
+use Rattle.host.specs.Record.{recordOf, soundOf, mayWrite, chipReset}
 use Rattle.writes.specs.Marks.{chipView}
 use Rattle.update.specs.declared.ListAnswer.{ListAnswer}
 use Rattle.update.specs.declared.ListAnswer.the-variants.{Listed, Short, Refused}
@@ -54,11 +53,11 @@ listSize bs = 4 + 2 * length bs + busBytes bs
 abbrev pub over : List ℕ → List ℕ → List ℕ
 over bytes buffer = bytes ++ drop (length bytes) buffer
 
--- What a call sends: its writes, what it answers of a buffer that is too short for their list, and the chip image once they are sent.
+-- What a call sends: its writes, what it answers of a buffer that is too short for their list, and the host's record once they are sent.
 pub record Sending : Type 0 where
   pub writes : List Burst
   pub short : ListAnswer
-  pub image : List ℕ
+  pub host : Record
 
 -- "Every call but Open .. first refuses an unsound record with 14." "10: buffer shorter than 4 + 2n + t". "Otherwise .. n and t
 -- answered"
@@ -68,11 +67,11 @@ sendAnswer r x size =
     (cond (leb (listSize (x .writes)) size) (Listed (length (x .writes)) (busBytes (x .writes))) (x .short))
     (Refused Unsound)
 
--- the answer, and the host's record: the chip image changes where a list was written, and nothing else does
+-- the answer, and the host's record: "a refusal returns it unchanged"
 unfoldable pub sendOf : Record → Sending → ℕ → Sent
 sendOf r x size = record {
   answer = sendAnswer r x size;
-  host = recordOf (r .header) (r .settings) (cond (isListed (sendAnswer r x size)) (x .image) (r .image));
+  host = cond (isListed (sendAnswer r x size)) (x .host) r;
 }
 
 -- "Otherwise exactly those bytes are written": a call that is refused leaves the buffer as it was
@@ -88,7 +87,11 @@ writesOf r = updateFor (mayWrite (r .header)) 908 (r .settings) (chipView r)
 
 -- "the answer carries the length needed." ".. and the chip image takes the data bytes at their addresses."
 abbrev pub updating : Record → Sending
-updating r = record { writes = writesOf r; short = Short (listSize (writesOf r)); image = storeAll (writesOf r) (r .image) }
+updating r = record {
+  writes = writesOf r;
+  short = Short (listSize (writesOf r));
+  host = recordOf (r .header) (r .settings) (storeAll (writesOf r) (r .image));
+}
 
 abbrev pub updateAnswer : Record → ℕ → ListAnswer
 updateAnswer r size = sendAnswer r (updating r) size
@@ -97,6 +100,7 @@ updateAnswer r size = sendAnswer r (updating r) size
 abbrev pub updateStored : Record → ℕ → ℕ
 updateStored r size = cond (isListed (updateAnswer r size)) (dataBytes (writesOf r)) 0
 
+-- the whole of what an update answers: its list's answer, that number, and the host's record
 abbrev pub updateOf : Record → ℕ → Updated
 updateOf r size = record { answer = sendOf r (updating r) size .answer; stored = updateStored r size; host = sendOf r (updating r) size .host }
 
@@ -110,12 +114,13 @@ abbrev pub commandWrite : ℕ → List ℕ → List Burst
 commandWrite a bytes = record { start = a; bytes = bytes } ∷ []
 
 -- a buffer that is too short is refused with 10, which "carries only its number"
-abbrev pub command : ℕ → List ℕ → List ℕ → Sending
-command a bytes image = record { writes = commandWrite a bytes; short = Refused BufferShort; image = image }
+abbrev pub command : ℕ → List ℕ → Record → Sending
+command a bytes host = record { writes = commandWrite a bytes; short = Refused BufferShort; host = host }
 
--- Reset: "10: under 9 bytes. One write of FFh to 0A9h". "After either, the chip image has reset values and the settings are kept."
+-- Reset: "10: under 9 bytes. One write of FFh to 0A9h". "After either, the chip image has reset values and the settings are kept.", and the
+-- lock is released
 abbrev pub resetting : Record → Sending
-resetting r = command 0x0A9 (0xFF ∷ []) (resetImage (r .header .member))
+resetting r = command 0x0A9 (0xFF ∷ []) (chipReset r)
 
 abbrev pub resetAnswer : Record → ℕ → ListAnswer
 resetAnswer r size = sendAnswer r (resetting r) size
@@ -129,7 +134,7 @@ resetBuffer r buffer = sendBuffer r (resetting r) buffer
 -- Clear: "one write of 0Fh 0Fh from 0A7h, four bus bytes. It needs a buffer of 10 bytes, else 10." As document 01's Clear calls, it
 -- leaves "the record unchanged."
 abbrev pub clearing : Record → Sending
-clearing r = command 0x0A7 (0x0F ∷ 0x0F ∷ []) (r .image)
+clearing r = command 0x0A7 (0x0F ∷ 0x0F ∷ []) r
 
 abbrev pub clearAnswer : Record → ℕ → ListAnswer
 clearAnswer r size = sendAnswer r (clearing r) size

@@ -3,7 +3,7 @@
 use mathlib.Core.Path.{_≡_, refl, sym, ap, _∙_, subst}
 use mathlib.Core.Logic.{_⊎_, inl, inr}
 use mathlib.Core.Bool.{Bool, true, false, not, _||_, true≢false}
-use mathlib.Core.List.{List, [], _∷_}
+use mathlib.Core.List.{List, [], _∷_, map}
 use Prim.Native.Nat.{ℕ, _+_, _-_, _≤_, _<_}
 use native.Mathlib.Decide.{decLt}
 use native.Mathlib.Omega.{arith}
@@ -20,12 +20,15 @@ use Rattle.map.specs.ListLaws.{all-at}
 use Rattle.map.specs.ImageLaws.{Fit, Image}
 use Rattle.burst.specs.Burst.{Burst}
 use Rattle.plan.specs.Lists.{All, sets-outside, sets-inside}
-use Rattle.plan.specs.Update.{View, updateFor, storeAll, Layout}
-use Rattle.plan.specs.UpdateLaws.{Fitting, update-fitting}
+use Rattle.plan.specs.Writes.{AllGood}
+use Rattle.plan.specs.Update.{View, updateFor, storeAll, writeOf, Layout}
+use Rattle.plan.specs.UpdateLaws.{Fitting, update-good, update-fitting}
+use Rattle.plan.specs.LockLaws.{stored-outside}
 use Rattle.host.specs.declared.Header.{Header}
 use Rattle.host.specs.declared.Record.{Record}
-use Rattle.host.specs.Record.{mayWrite}
-use Rattle.host.specs.RecordLaws.{may-write}
+use Rattle.host.specs.Record.{isTrim, lockKeeps, mayWrite}
+use Rattle.host.specs.RecordLaws.{not-locked, writable-may, enable-free}
+use Rattle.host.specs.LockLaws.{Marks}
 use Rattle.host.specs.SoundLaws.{Sound}
 use Rattle.writes.specs.Marks.{chipView}
 use Rattle.update.specs.Update.{writesOf, updating}
@@ -53,7 +56,7 @@ enable-byte m v h f = leb-true v 1 (second (eqb (bitAnd v 0xFE) 0) (eq-eqb (bitA
 pub image-layout : (h : Header) (settings : List ℕ) → Image (h .member) settings → Layout (mayWrite h) 908 settings
 image-layout h settings s = record {
   some = omega arith;
-  enable-ok = may-write h 0 ∙ below-writable (h .member) 0 (omega (arith, enable-mask (h .member) (s .member)));
+  enable-ok = writable-may h 0 (below-writable (h .member) 0 (omega (arith, enable-mask (h .member) (s .member)))) (enable-free h);
   size = s .size;
 }
 
@@ -88,8 +91,27 @@ update-fits h settings s v =
     update-fitting (mayWrite h) 908 settings (image-layout h settings s) (Fit (h .member)) (λ a l k. s .fits a l)
     (enable-byte (h .member) (getD settings 0 0) (s .member) (s .fits 0 (omega arith))) v
 
--- so the chip image that it leaves is an image
-pub update-image : (r : Record) → Sound r → Image (r .header .member) (updating r .image)
+-- ---- the locked addresses
+
+-- writes to addresses that may be written leave the marks right
+pub store-marks : (h : Header) (settings image : List ℕ) → Marks h settings image → (bs : List Burst) → AllGood (mayWrite h) 908 (map writeOf bs) →
+    Marks h settings (storeAll bs image)
+unfolding lockKeeps isTrim
+store-marks h settings image k bs g = record {
+  most = k .most;
+  trims = λ l. record {
+    first = k .trims l .first ∙ sym (stored-outside (mayWrite h) 908 bs g image 0x003 (not-locked h 0x003 l));
+    second = k .trims l .second ∙ sym (stored-outside (mayWrite h) 908 bs g image 0x004 (not-locked h 0x004 l));
+  };
+}
+
+-- so the record that an update leaves is sound
+pub update-sound : (r : Record) → Sound r → Sound (updating r .host)
 unfolding writesOf
-update-image r s =
-    store-image (r .header .member) (writesOf r) (update-fits (r .header) (r .settings) (s .settings) (chipView r)) (r .image) (s .image)
+update-sound r s = record {
+  opened = s .opened;
+  settings = s .settings;
+  image = store-image (r .header .member) (writesOf r) (update-fits (r .header) (r .settings) (s .settings) (chipView r)) (r .image) (s .image);
+  marks = store-marks (r .header) (r .settings) (r .image) (s .marks) (writesOf r)
+      (update-good (mayWrite (r .header)) 908 (r .settings) (image-layout (r .header) (r .settings) (s .settings)) (chipView r));
+}

@@ -5,6 +5,7 @@ ghost use mathlib.Core.List.{List};
 ghost use Prim.Native.Nat.{ℕ, _≤_};
 ghost use lib.ListN.{length};
 ghost use Rattle.burst.specs.Burst.{encode};
+ghost use Rattle.host.specs.declared.Record.{Record};
 ghost use Rattle.host.specs.Record.{recordOf};
 ghost use Rattle.update.specs.Update.{isListed, listSize, over, sendAnswer, commandWrite, command, resetAnswer, resetBuffer, clearAnswer, clearBuffer};
 use crate::ListAnswer;
@@ -35,7 +36,7 @@ fn command_answer<'a>(
 ) -> ListAnswer
     requires { ⌜ 8 ≤ size ⌝ }
     ensures { λ r. ⌜
-        ((a : ℕ) (bytes new : List ℕ) → size ≡ listSize (commandWrite a bytes) →
+        ((a : ℕ) (bytes : List ℕ) (new : Record) → size ≡ listSize (commandWrite a bytes) →
         r ≡ sendAnswer (recordOf header (now (settings .entry)) (now (image .entry))) (command a bytes new) room)
         ⌝ }
 {

@@ -17,7 +17,7 @@ ghost use Prim.Native.Nat.{ℕ};
 ghost use lib.ListN.{length};
 ghost use Rattle.map.specs.Refusals.{numbersOf};
 ghost use Rattle.map.specs.Images.{resetImage};
-ghost use Rattle.host.specs.Record.{recordOf};
+ghost use Rattle.host.specs.Record.{recordOf, free, markedAs};
 ghost use Rattle.update.specs.Update.{isListed, updateStored, updateOf, updateBuffer, chipResetOf, resetBuffer, clearOf, clearBuffer, listNumbers, updateNumbers};
 ghost use Rattle.update.specs.Pieces.{UpdateSent};
 pub use commands::clear_parts;
@@ -112,7 +112,8 @@ fn store_own(answer: ListAnswer, header: Header, image: &mut [u8; 908], buffer: 
     store_sent(answer, header, image, buffer)
 }
 
-// Put every register of the chip to its reset value. The settings are kept, so that the next update sends them again.
+// Put every register of the chip to its reset value. The settings are kept, so that the next update sends them again, and a lock is
+// released.
 pub fn reset(mut r: Record, buffer: &mut [u8]) -> Sent
     ensures { λ x. ⌜ x ≡ chipResetOf r (length (now (buffer .entry))) ⌝ }
     ensures { λ _. ⌜ now (buffer .exit) ≡ resetBuffer r (now (buffer .entry)) ⌝ }
@@ -120,6 +121,7 @@ pub fn reset(mut r: Record, buffer: &mut [u8]) -> Sent
     let header = r.header;
     let answer = reset_parts(header, &r.settings, &r.image, buffer);
     put_own(answer, header, &mut r.image);
+    r.header = released(answer, header);
     Sent {
         answer: answer,
         host: r,
@@ -135,6 +137,17 @@ fn put_own(answer: ListAnswer, header: Header, image: &mut [u8; 908])
         ListAnswer::Listed { n: _, t: _ } => images::put_reset(header.member as usize, image),
         ListAnswer::Short { needed: _ } => {}
         ListAnswer::Refused(_) => {}
+    }
+}
+
+// The header of a record whose Reset has this answer.
+fn released(answer: ListAnswer, header: Header) -> Header
+    ensures { λ r. ⌜ r ≡ cond (isListed answer) (markedAs header free) header ⌝ }
+{
+    match answer {
+        ListAnswer::Listed { n: _, t: _ } => host::with_marks(header, host::FREE),
+        ListAnswer::Short { needed: _ } => header,
+        ListAnswer::Refused(_) => header,
     }
 }
 

@@ -11,11 +11,18 @@ reset-parts-requires c κs = search needs
 put-own-requires : tie.Need-put-own-requires
 put-own-requires c κs = search needs
 
+released-requires : tie.Need-released-requires
+released-requires c κs = search needs
+
 same-length : tie.Need-same-length
 same-length c = search needs
 
 returns : tie.Need-returns
-returns c = let e = c .before .before .before .before .reset-parts .ensures in (reset-is _ _ _ (e .0) _ (c .put-own .ensures), e .1)
+returns c =
+    let e = c .before .before .before .before .before .reset-parts .ensures in
+    (reset-is _ _ _ (e .0) _ (c .released .ensures) _ (c .before .put-own .ensures), e .1)
 
 pub reset-spec : {M : Type 1} → statement M
-reset-spec = tie.close (tie.spec reset-parts-requires put-own-requires same-length returns)
+reset-spec =
+    tie.close
+    (tie.spec reset-parts-requires put-own-requires released-requires same-length returns)
