@@ -23,18 +23,16 @@ use Rattle.rounds.specs.Round.{atPlace, presentAt, recordAt, takes, partAt, cou
 use Rattle.rounds.specs.ListLaws.{few-parts}
 use Rattle.rounds.specs.DealLaws.{round-takes, round-bytes, parts-ready}
 use Rattle.rounds.specs.Dealing.{recordsOf, ImagesAfter}
-use Rattle.capi.specs.Capi.{headerIn, settingsAt, imageAt, recordIn, recordBytes, recordSize, putImage, placeAt, recordFrom, recordsIn, headersIn, recordsBytes, keptAt, keptAll, roundSized, roundAnswerBy, Fits}
+use Rattle.capi.specs.Capi.{headerIn, settingsAt, imageAt, recordIn, headerBytes, recordBytes, recordSize, putImage, placeAt, recordFrom, recordsIn, headersIn, recordsBytes, keptAt, keptAll, roundSized, roundAnswerBy, Fits}
 use Rattle.capi.specs.CapiLaws.{Whole, record-length, records-round, round-sized}
 use Rattle.capi.proofs.InPlace.{part-length}
 
 -- ---- what is read
 
-pub header-read : (bytes : List ℕ) (at : ℕ) → headerOf (getD bytes at 0) (getD bytes (at + 1) 0) (getD bytes (at + 2) 0) ≡ headerIn (drop at bytes)
+pub header-read : (bytes : List ℕ) (at : ℕ) →
+    headerOf (getD bytes at 0) (getD bytes (at + 1) 0) (getD bytes (at + 2) 0) (getD bytes (at + 3) 0) ≡ headerIn (drop at bytes)
 unfolding headerIn
-header-read bytes at =
-    ap (λ (x : ℕ). headerOf (getD bytes x 0) (getD bytes (at + 1) 0) (getD bytes (at + 2) 0)) (sym (add-zero at))
-    ∙ ap (λ (x : ℕ). headerOf x (getD bytes (at + 1) 0) (getD bytes (at + 2) 0)) (sym (getD-drop at bytes 0 0))
-    ∙ ap₂ (λ (x y : ℕ). headerOf (getD (drop at bytes) 0 0) x y) (sym (getD-drop at bytes 1 0)) (sym (getD-drop at bytes 2 0))
+header-read bytes at = rw (getD-drop at bytes 0 0, getD-drop at bytes 1 0, getD-drop at bytes 2 0, getD-drop at bytes 3 0, add-zero at) refl
 
 pub headers-read : (bytes : List ℕ) (a b c d : Header) → a ≡ headerIn (drop (placeAt 0) bytes) → b ≡ headerIn (drop (placeAt 1) bytes) →
     c ≡ headerIn (drop (placeAt 2) bytes) → d ≡ headerIn (drop (placeAt 3) bytes) →
@@ -91,10 +89,10 @@ put-first : (r : Record) → Whole r → (image rest : List ℕ) →
     putImage (recordBytes r ++ rest) imageAt image ≡ recordBytes (withImage r image) ++ rest
 unfolding recordBytes
 put-first r w image rest =
-    ap₂ (λ (a b : List ℕ). r .header .member ∷ r .header .bus ∷ r .header .pins ∷ a ++ (image ++ b))
+    ap₂ (λ (a b : List ℕ). headerBytes (r .header) ++ (a ++ (image ++ b)))
     (ap (take 908) (append-assoc (r .settings) (r .image) rest) ∙ take-at (r .settings) (r .image ++ rest) 908 (w .0))
     (drop-at (r .settings ++ r .image) rest 1816 (omega (arith, length-append (r .settings) (r .image), w .0, w .1)))
-    ∙ ap (λ (l : List ℕ). r .header .member ∷ r .header .bus ∷ r .header .pins ∷ l) (sym (append-assoc (r .settings) image rest))
+    ∙ ap (λ (l : List ℕ). headerBytes (r .header) ++ l) (sym (append-assoc (r .settings) image rest))
 
 -- and of one behind other bytes
 put-behind : (x l : List ℕ) (at : ℕ) (image : List ℕ) → putImage (x ++ l) (length x + at) image ≡ x ++ putImage l at image

@@ -9,7 +9,7 @@ use native.Mathlib.Omega.{arith}
 use borrow.Author.Tests.{eq-eqb}
 use lib.Dec.{ltb, eqb}
 use borrow.Rule.Slice.PartMut.{same-len-mid}
-use lib.ListN.{length, getD, take, drop, length-take, length-drop, length-append, drop-of-length-le, take-append-drop}
+use lib.ListN.{length, getD, take, drop, set, length-set, length-take, length-drop, length-append, drop-of-length-le, take-append-drop}
 use lib.Seq.{take-all, take-at, drop-drop}
 use mir.Val.{boolByte}
 use Rattle.map.specs.declared.refusals.Answer.{Answer}
@@ -25,14 +25,15 @@ use Rattle.map.specs.Images.{resetImage}
 use Rattle.burst.specs.Burst.{transactions}
 use Rattle.calls.specs.declared.Setting.{Setting}
 use Rattle.host.specs.declared.Header.{Header}
+use Rattle.host.specs.declared.Record.{Record}
 use Rattle.host.specs.declared.Changed.{Changed}
-use Rattle.host.specs.Record.{recordOf, opened, openHost, openOf, settingAnswer, settingNumbers, putSetting, changedTo, settingOf, soundAnswer, powerLostOf}
+use Rattle.host.specs.Record.{recordOf, free, locked, opened, openHost, openOf, settingAnswer, settingNumbers, putSetting, changedTo, settingOf, soundAnswer, chipReset, powerLostOf, lockAnswer, lockOf}
 use Rattle.faults.specs.declared.Answer as faults
 use Rattle.faults.specs.Faults.{faultsAnswer, faultsResult}
 use Rattle.chip.specs.declared.Chip.{Chip}
 use Rattle.chip.specs.Chip.{chipOf, newChip, atResetOf, applyAll, feedAnswer, feedOf}
-use Rattle.capi.specs.Capi.{headerIn, settingsAt, settingsIn, imageAt, imageIn, recordIn, recordBytes, recordSize, recordSized, putImage, registersAt, chipIn, chipBytes, chipSize, whenSized, settingNumber, settingBytes, sizedNumbers, chipNumber, chipAfter, bufferAfter, faultsAnswerBy}
-use Rattle.capi.specs.CapiLaws.{front, settings-stored, image-stored, record-sized, record-unsized, chip-sized, chip-unsized}
+use Rattle.capi.specs.Capi.{headerIn, marksAt, settingsAt, settingsIn, imageAt, imageIn, recordIn, recordBytes, recordSize, recordSized, putImage, registersAt, chipIn, chipBytes, chipSize, whenSized, settingNumber, settingBytes, sizedNumbers, chipNumber, chipAfter, bufferAfter, faultsAnswerBy}
+use Rattle.capi.specs.CapiLaws.{front, settings-stored, image-stored, record-round, marks-stored, record-sized, record-unsized, chip-sized, chip-unsized}
 
 -- ---- parts of a list
 
@@ -65,6 +66,11 @@ done : (bytes new : List ℕ) (x : Changed) (number : ℕ) → length bytes ≡ 
     new ≡ cond (accepted (x .answer)) (recordBytes (x .host)) bytes → Done bytes x number new
 unfolding settingNumber settingBytes whenSized
 done bytes new x number h en eb = (rw (record-sized bytes h) en, rw (record-sized bytes h) eb)
+
+-- the record of an accepted call is the new one
+pub chosen : (b : Bool) (new old : Record) (bytes : List ℕ) → cond b (recordBytes new) bytes ≡ cond b (recordBytes (cond b new old)) bytes
+chosen true new old bytes = refl
+chosen false new old bytes = refl
 
 -- a setting: its number and values, and the bytes that it leaves
 abbrev pub Set : List ℕ → Changed → Numbers → List ℕ → Type 0
@@ -108,12 +114,38 @@ module _ (bytes : List ℕ) (h : length bytes ≡ recordSize) where
       (ap (λ (l : List ℕ). image ++ l) (drop-of-length-le bytes {i = recordSize} (omega arith)) ∙ append-nil image)
 
   pub image-put : (b : Bool) (new : List ℕ) →
-      putPart imageAt 908 bytes (cond b new (imageIn bytes)) ≡ cond b (recordBytes (recordOf (headerIn bytes) (settingsIn bytes) (cond b new (imageIn bytes)))) bytes
+      putPart imageAt 908 bytes (cond b new (imageIn bytes)) ≡ cond b (recordBytes (recordOf (headerIn bytes) (settingsIn bytes) new)) bytes
   image-put true new =
       ap (λ (l : List ℕ). take imageAt bytes ++ (new ++ l)) (drop-drop 908 imageAt bytes)
       ∙ image-last new
       ∙ sym (image-stored bytes h new)
   image-put false new = part-same imageAt 908 bytes
+
+  -- Power lost and Reset: the reset values are put into the image, and the lock is released
+  pub reset-stored : (header : Header) → header ≡ headerIn bytes → (b : Bool) (part new : List ℕ) →
+      part ≡ cond (b && eqb (length (imageIn bytes)) 908) (resetImage (header .member)) (imageIn bytes) →
+      new ≡ cond b (set (putPart imageAt 908 bytes part) marksAt free) (putPart imageAt 908 bytes part) →
+      new ≡ cond b (recordBytes (chipReset (recordIn bytes))) bytes
+  unfolding recordIn
+  reset-stored header eh b part new ep en =
+      en
+      ∙ ap marked
+      (ep ∙ ap (λ (t : Bool). cond (b && t) (resetImage (header .member)) (imageIn bytes)) (eq-eqb (length (imageIn bytes)) 908 (part-length imageAt 908 bytes (omega arith)))
+      ∙ ap (λ (x : Header). cond (b && true) (resetImage (x .member)) (imageIn bytes)) eh)
+      ∙ go b
+    where
+      marked : List ℕ → List ℕ
+      marked l = cond b (set (putPart imageAt 908 bytes l) marksAt free) (putPart imageAt 908 bytes l)
+
+      values : List ℕ
+      values = resetImage (headerIn bytes .member)
+
+      go : (t : Bool) → cond t (set (putPart imageAt 908 bytes (cond (t && true) values (imageIn bytes))) marksAt free) (putPart imageAt 908 bytes (cond (t && true) values (imageIn bytes)))
+          ≡ cond t (recordBytes (chipReset (recordOf (headerIn bytes) (settingsIn bytes) (imageIn bytes)))) bytes
+      go true =
+          ap (λ (l : List ℕ). set l marksAt free) (image-put true values)
+          ∙ marks-stored (recordOf (headerIn bytes) (settingsIn bytes) values) free
+      go false = image-put false values
 
   -- a header that was read, and the answer to a call on the record that it makes with the two images
   module _ (header : Header) (eh : header ≡ headerIn bytes) (answer : Answer) where
@@ -131,24 +163,31 @@ module _ (bytes : List ℕ) (h : length bytes ≡ recordSize) where
               (settings-put (accepted (settingAnswer (recordOf (headerIn bytes) (settingsIn bytes) (imageIn bytes)) q lent)) (putSetting (settingsIn bytes) q lent)),
         )
 
-    pub lost-done : (number : ℕ) → number ≡ answerNumber answer → (part : List ℕ) → answer ≡ soundAnswer (recordOf header (settingsIn bytes) (imageIn bytes)) →
+    -- a call that chooses between a record and the old one, by its answer
+    record-done : (f : Record → Answer) (x : Changed) (host : Record) (number : ℕ) (new : List ℕ) → x .answer ≡ f (recordIn bytes) →
+        x .host ≡ cond (accepted (f (recordIn bytes))) host (recordIn bytes) → answer ≡ f (recordOf header (settingsIn bytes) (imageIn bytes)) →
+        number ≡ answerNumber answer → new ≡ cond (accepted answer) (recordBytes host) bytes → Done bytes x number new
+    unfolding recordIn
+    record-done f x host number new xa xh ea en eb =
+        let e : answer ≡ f (recordIn bytes) = ea ∙ ap (λ (y : Header). f (recordOf y (settingsIn bytes) (imageIn bytes))) eh in
+        done bytes new x number h (en ∙ ap answerNumber (e ∙ sym xa))
+        (eb ∙ ap (λ (y : Answer). cond (accepted y) (recordBytes host) bytes) e ∙ chosen (accepted (f (recordIn bytes))) host (recordIn bytes) bytes ∙ rw (xa, xh) refl)
+
+    pub lost-done : (number : ℕ) (part new : List ℕ) → answer ≡ soundAnswer (recordOf header (settingsIn bytes) (imageIn bytes)) → number ≡ answerNumber answer →
         part ≡ cond (accepted answer && eqb (length (imageIn bytes)) 908) (resetImage (header .member)) (imageIn bytes) →
-        Done bytes (powerLostOf (recordIn bytes)) number (putPart imageAt 908 bytes part)
-    unfolding recordIn powerLostOf
-    lost-done number en part ea ep =
-        let e : answer ≡ soundAnswer (recordOf (headerIn bytes) (settingsIn bytes) (imageIn bytes)) =
-        ea ∙ ap (λ (x : Header). soundAnswer (recordOf x (settingsIn bytes) (imageIn bytes))) eh in
-        let whole = eq-eqb (length (imageIn bytes)) 908 (part-length imageAt 908 bytes (omega arith)) in
-        done bytes _ _ number h (en ∙ ap answerNumber e)
-        (ap (putPart imageAt 908 bytes)
-        (ep ∙ ap (λ (b : Bool). cond (accepted answer && b) (resetImage (header .member)) (imageIn bytes)) whole ∙ and-true (accepted answer)
-        ∙ ap (λ (x : Header). cond (accepted answer) (resetImage (x .member)) (imageIn bytes)) eh
-        ∙ ap (λ (x : Answer). cond (accepted x) (resetImage (headerIn bytes .member)) (imageIn bytes)) e)
-        ∙ image-put (accepted (soundAnswer (recordOf (headerIn bytes) (settingsIn bytes) (imageIn bytes)))) (resetImage (headerIn bytes .member)))
-      where
-        and-true : (b : Bool) → cond (b && true) (resetImage (header .member)) (imageIn bytes) ≡ cond b (resetImage (header .member)) (imageIn bytes)
-        and-true true = refl
-        and-true false = refl
+        new ≡ cond (accepted answer) (set (putPart imageAt 908 bytes part) marksAt free) (putPart imageAt 908 bytes part) →
+        Done bytes (powerLostOf (recordIn bytes)) number new
+    unfolding powerLostOf
+    lost-done number part new ea en ep em =
+        record-done soundAnswer (powerLostOf (recordIn bytes)) (chipReset (recordIn bytes)) number new refl refl ea en (reset-stored header eh (accepted answer) part new ep em)
+
+    -- Lock puts its mark
+    pub lock-done : (number : ℕ) (new : List ℕ) → answer ≡ lockAnswer (recordOf header (settingsIn bytes) (imageIn bytes)) → number ≡ answerNumber answer →
+        new ≡ cond (accepted answer) (set bytes marksAt locked) bytes → Done bytes (lockOf (recordIn bytes)) number new
+    unfolding lockOf
+    lock-done number new ea en em =
+        record-done lockAnswer (lockOf (recordIn bytes)) _ number new refl refl ea en
+        (em ∙ ap (λ (l : List ℕ). cond (accepted answer) l bytes) (ap (λ (l : List ℕ). set l marksAt locked) (sym (record-round bytes h)) ∙ marks-stored (recordIn bytes) locked))
 
 -- ---- Open
 
@@ -178,6 +217,18 @@ record Front (n at : ℕ) (xs l : List ℕ) : Type 0 where
 front-first : (n m b p : ℕ) (bytes new : List ℕ) → 3 ≤ n → length bytes ≡ n → new ≡ m ∷ b ∷ p ∷ drop 3 bytes → Front n 3 (m ∷ b ∷ p ∷ []) new
 front-first n m b p bytes new l h e = record { size = ap length e ∙ omega (arith, length-drop 3 bytes); is = ap (take 3) e }
 
+-- and the marks behind these
+front-marks : (n m b p marks : ℕ) (bytes first new : List ℕ) → 4 ≤ n → length bytes ≡ n → first ≡ m ∷ b ∷ p ∷ drop 3 bytes → new ≡ set first marksAt marks →
+    Front n 4 (m ∷ b ∷ p ∷ marks ∷ []) new
+front-marks n m b p marks bytes first new l h e q = record {
+  size = ap length q ∙ length-set first marksAt marks ∙ front-first n m b p bytes first (omega arith) h e .size;
+  is = ap (take 4) (q ∙ ap (λ (x : List ℕ). set x marksAt marks) e) ∙ ap (λ (x : List ℕ). m ∷ b ∷ p ∷ x) (one (drop 3 bytes) (omega (arith, length-drop 3 bytes)));
+}
+  where
+    one : (x : List ℕ) → 1 ≤ length x → take 1 (set x 0 marks) ≡ marks ∷ []
+    one [] s = absurd (omega arith)
+    one (y ∷ rest) s = refl
+
 -- the next k are put
 front-more : (n at k : ℕ) (xs s old new : List ℕ) → at + k ≤ n → length s ≡ k → Front n at xs old → new ≡ putPart at k old s → Front n (at + k) (xs ++ s) new
 front-more n at k xs s old new l e f q = record {
@@ -203,31 +254,29 @@ reset-length : (m : ℕ) → length (resetImage m) ≡ 908
 unfolding resetImage
 reset-length m = table-length (resetOf m) 908
 
-module _ (m b p : ℕ) (bytes first : List ℕ) (e : first ≡ m ∷ b ∷ p ∷ drop settingsAt bytes) where
-  images-put : (n : ℕ) (part : List ℕ) → imageAt ≤ n → length bytes ≡ n →
-      part ≡ cond (eqb (length (take 908 (drop settingsAt first))) 908) (resetImage m) (take 908 (drop settingsAt first)) →
-      Front n imageAt ((m ∷ b ∷ p ∷ []) ++ resetImage m) (putPart settingsAt 908 first part)
-  images-put n part l h ep =
-      let f = front-first n m b p bytes first (omega arith) h e in
-      front-more n 3 908 (m ∷ b ∷ p ∷ []) (resetImage m) first _ l (reset-length m) f
-      (ap (putPart settingsAt 908 first) (reset-put m 3 first part (omega (arith, f .size)) ep))
+front-reset : (n at m : ℕ) (xs old part : List ℕ) → at + 908 ≤ n → Front n at xs old →
+    part ≡ cond (eqb (length (take 908 (drop at old))) 908) (resetImage m) (take 908 (drop at old)) →
+    Front n (at + 908) (xs ++ resetImage m) (putPart at 908 old part)
+front-reset n at m xs old part l f e =
+    front-more n at 908 xs (resetImage m) old _ l (reset-length m) f (ap (putPart at 908 old) (reset-put m at old part (omega (arith, f .size)) e))
 
+module _ (m b p : ℕ) (bytes first : List ℕ) (e : first ≡ m ∷ b ∷ p ∷ drop 3 bytes) where
   pub chip-put : (part : List ℕ) → length bytes ≡ chipSize →
       part ≡ cond (eqb (length (take 908 (drop registersAt first))) 908) (resetImage m) (take 908 (drop registersAt first)) →
       putPart registersAt 908 first part ≡ chipBytes (newChip m b p)
   unfolding chipBytes newChip
-  chip-put part h ep = front-all chipSize _ _ (images-put chipSize part (omega arith) h ep)
+  chip-put part h ep =
+      front-all chipSize _ _ (front-reset chipSize registersAt m (m ∷ b ∷ p ∷ []) first part (omega arith) (front-first chipSize m b p bytes first (omega arith) h e) ep)
 
-  pub record-put : (part last : List ℕ) → length bytes ≡ recordSize →
-      part ≡ cond (eqb (length (take 908 (drop settingsAt first))) 908) (resetImage m) (take 908 (drop settingsAt first)) →
-      last ≡ cond (eqb (length (take 908 (drop imageAt (putPart settingsAt 908 first part)))) 908) (resetImage m) (take 908 (drop imageAt (putPart settingsAt 908 first part))) →
-      putPart imageAt 908 (putPart settingsAt 908 first part) last ≡ recordBytes (opened m b p)
+  pub record-put : (marked part last : List ℕ) → length bytes ≡ recordSize → marked ≡ set first marksAt free →
+      part ≡ cond (eqb (length (take 908 (drop settingsAt marked))) 908) (resetImage m) (take 908 (drop settingsAt marked)) →
+      last ≡ cond (eqb (length (take 908 (drop imageAt (putPart settingsAt 908 marked part)))) 908) (resetImage m) (take 908 (drop imageAt (putPart settingsAt 908 marked part))) →
+      putPart imageAt 908 (putPart settingsAt 908 marked part) last ≡ recordBytes (opened m b p)
   unfolding recordBytes opened
-  record-put part last h ep el =
-      let f = images-put recordSize part (omega arith) h ep in
-      front-all recordSize _ _
-      (front-more recordSize imageAt 908 ((m ∷ b ∷ p ∷ []) ++ resetImage m) (resetImage m) (putPart settingsAt 908 first part) _ (omega arith) (reset-length m) f
-      (ap (putPart imageAt 908 (putPart settingsAt 908 first part)) (reset-put m imageAt (putPart settingsAt 908 first part) last (omega (arith, f .size)) el)))
+  record-put marked part last h em ep el =
+      let f = front-marks recordSize m b p free bytes first marked (omega arith) h e em in
+      let g = front-reset recordSize settingsAt m (m ∷ b ∷ p ∷ free ∷ []) marked part (omega arith) f ep in
+      front-all recordSize _ _ (front-reset recordSize imageAt m ((m ∷ b ∷ p ∷ free ∷ []) ++ resetImage m) (putPart settingsAt 908 marked part) last (omega arith) g el)
 
 -- ---- chips
 

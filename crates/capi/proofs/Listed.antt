@@ -5,9 +5,8 @@ use mathlib.Core.Bool.{Bool, true, false, cond, _&&_}
 use mathlib.Core.List.{List}
 use Prim.Native.Nat.{ℕ, _+_, _<_, _≤_, _^_}
 use native.Mathlib.Omega.{arith}
-use borrow.Author.Tests.{eq-eqb}
 use lib.Dec.{leb, eqb}
-use lib.ListN.{length}
+use lib.ListN.{length, set}
 use Rattle.map.specs.declared.refusals.Refusal.{Refusal}
 use Rattle.map.specs.declared.refusals.Refusal.the-variants.{BufferShort, ListSizes, Unsound, NoTransaction}
 use Rattle.map.specs.Refusals.{refusalNumber}
@@ -19,18 +18,18 @@ use Rattle.burst.specs.BurstLaws.{good-sizes}
 use Rattle.burst.specs.PlaceLaws.{transaction-stands, placed}
 use Rattle.host.specs.declared.Header.{Header}
 use Rattle.host.specs.declared.Record.{Record}
-use Rattle.host.specs.Record.{recordOf, soundOf}
+use Rattle.host.specs.Record.{recordOf, free, soundOf}
 use Rattle.update.specs.declared.ListAnswer.{ListAnswer}
 use Rattle.update.specs.declared.ListAnswer.the-variants.{Listed, Short, Refused}
-use Rattle.update.specs.Update.{isListed, listNumber, listSize, Sending, sendAnswer, sendOf, sendBuffer, writesOf, updating, updateAnswer, updateStored, updateOf, updateBuffer, command, resetting, resetAnswer}
+use Rattle.update.specs.Update.{isListed, listNumber, listSize, Sending, sendAnswer, sendOf, sendBuffer, writesOf, updating, updateAnswer, updateStored, updateOf, updateBuffer, commandWrite, command, resetting, resetAnswer}
 use Rattle.update.specs.Pieces.{UpdateSent}
 use Rattle.update.specs.SendLaws.{answer-of}
 use Rattle.update.specs.StoredLaws.{stored-is}
 use Rattle.update.specs.BoundLaws.{bus-most, writes-few, size-most}
-use Rattle.capi.specs.Capi.{headerIn, settingsIn, imageAt, imageIn, recordIn, recordBytes, recordSize, listAnswer, listBytes, bufferAfter, valueAfter, nAfter, tAfter, storedAfter, neededAfter, Fits, placeNumbers}
+use Rattle.capi.specs.Capi.{headerIn, marksAt, settingsIn, imageAt, imageIn, recordIn, recordBytes, recordSize, listAnswer, listBytes, bufferAfter, valueAfter, nAfter, tAfter, storedAfter, neededAfter, Fits, placeNumbers}
 use Rattle.capi.specs.Calls.{transactionCall}
 use Rattle.capi.specs.CapiLaws.{record-sized, refused-stores}
-use Rattle.capi.proofs.InPlace.{putPart, part-length, image-put}
+use Rattle.capi.proofs.InPlace.{putPart, chosen, image-put, reset-stored}
 
 -- ---- lists are short
 
@@ -46,11 +45,11 @@ module _ (r : Record) (size : ℕ) where
       go false e b = tt
 
   -- a command of one byte or two
-  command-fits : (a : ℕ) (values image : List ℕ) → length values ≤ 2 → Fits (sendAnswer r (command a values image) size)
+  command-fits : (a : ℕ) (values : List ℕ) (host : Record) → length values ≤ 2 → Fits (sendAnswer r (command a values host) size)
   unfolding sendAnswer
-  command-fits a values image h = go (soundOf r) (leb (listSize (command a values image .writes)) size)
+  command-fits a values host h = go (soundOf r) (leb (listSize (commandWrite a values)) size)
     where
-      go : (s b : Bool) → Fits (cond s (cond b (Listed 1 (busBytes (command a values image .writes))) (Refused BufferShort)) (Refused Unsound))
+      go : (s b : Bool) → Fits (cond s (cond b (Listed 1 (busBytes (commandWrite a values))) (Refused BufferShort)) (Refused Unsound))
       go true true = (omega arith, omega arith)
       go true false = tt
       go false b = tt
@@ -58,8 +57,9 @@ module _ (r : Record) (size : ℕ) where
   pub update-within : (answer : ListAnswer) → answer ≡ updateAnswer r size → Fits answer
   update-within answer e = rw e update-fits
 
-  pub command-within : (a : ℕ) (values image : List ℕ) → length values ≤ 2 → (answer : ListAnswer) → answer ≡ sendAnswer r (command a values image) size → Fits answer
-  command-within a values image h answer e = rw e (command-fits a values image h)
+  pub command-within : (a : ℕ) (values : List ℕ) (host : Record) → length values ≤ 2 → (answer : ListAnswer) →
+      answer ≡ sendAnswer r (command a values host) size → Fits answer
+  command-within a values host h answer e = rw e (command-fits a values host h)
 
 -- ---- a call that sends, on bytes of the right size
 
@@ -81,28 +81,19 @@ module _ (f : Record → Sending) (bytes : List ℕ) (h : length bytes ≡ recor
     unfolding bufferAfter recordIn
     buffer-is new e = e ∙ ap (λ (x : Header). sendBuffer (held x) (f (held x)) buffer) eh ∙ rw (record-sized bytes h) refl
 
-    -- the image that was sent, or nothing
-    sent : listBytes bytes (sendOf (recordIn bytes) (f (recordIn bytes)) (length buffer)) ≡
-        cond (isListed answer) (recordBytes (recordOf (headerIn bytes) (settingsIn bytes) (cond (isListed answer) (f (recordIn bytes) .image) (imageIn bytes)))) bytes
-    unfolding listBytes sendOf recordIn
-    sent = rw (answer-is) (rw (sym answers) refl)
+    -- the record that the call leaves, or nothing
+    sent : listBytes bytes (sendOf (recordIn bytes) (f (recordIn bytes)) (length buffer)) ≡ cond (isListed answer) (recordBytes (f (recordIn bytes) .host)) bytes
+    unfolding listBytes sendOf
+    sent = rw answer-is (rw (sym answers) (sym (chosen (isListed answer) (f (recordIn bytes) .host) (recordIn bytes) bytes)))
 
--- a Reset puts its image into its part of the bytes
-pub reset-back : (bytes : List ℕ) (h : length bytes ≡ recordSize) (header : Header) (eh : header ≡ headerIn bytes) (buffer part : List ℕ) (answer : ListAnswer) →
+-- a Reset puts the reset values into the image's part of the bytes, and releases the lock
+pub reset-back : (bytes : List ℕ) (h : length bytes ≡ recordSize) (header : Header) (eh : header ≡ headerIn bytes) (buffer part new : List ℕ) (answer : ListAnswer) →
     (ea : answer ≡ resetAnswer (recordOf header (settingsIn bytes) (imageIn bytes)) (length buffer)) →
     part ≡ cond (isListed answer && eqb (length (imageIn bytes)) 908) (resetImage (header .member)) (imageIn bytes) →
-    putPart imageAt 908 bytes part ≡ listBytes bytes (sendOf (recordIn bytes) (resetting (recordIn bytes)) (length buffer))
-unfolding recordIn
-reset-back bytes h header eh buffer part answer ea ep =
-    ap (putPart imageAt 908 bytes)
-    (ep ∙ ap (λ (b : Bool). cond (isListed answer && b) (resetImage (header .member)) (imageIn bytes)) (eq-eqb (length (imageIn bytes)) 908 (part-length imageAt 908 bytes (omega arith)))
-    ∙ whole (isListed answer) ∙ ap (λ (x : Header). cond (isListed answer) (resetImage (x .member)) (imageIn bytes)) eh)
-    ∙ image-put bytes h (isListed answer) (resetImage (headerIn bytes .member))
-    ∙ sym (sent resetting bytes h header eh buffer answer ea)
-  where
-    whole : (b : Bool) → cond (b && true) (resetImage (header .member)) (imageIn bytes) ≡ cond b (resetImage (header .member)) (imageIn bytes)
-    whole true = refl
-    whole false = refl
+    new ≡ cond (isListed answer) (set (putPart imageAt 908 bytes part) marksAt free) (putPart imageAt 908 bytes part) →
+    new ≡ listBytes bytes (sendOf (recordIn bytes) (resetting (recordIn bytes)) (length buffer))
+reset-back bytes h header eh buffer part new answer ea ep em =
+    reset-stored bytes h header eh (isListed answer) part new ep em ∙ sym (sent resetting bytes h header eh buffer answer ea)
 
 -- an update has its image take what was sent
 module _ (bytes : List ℕ) (h : length bytes ≡ recordSize) (header : Header) (eh : header ≡ headerIn bytes) (lent buffer : List ℕ) (answer : ListAnswer)
@@ -120,10 +111,14 @@ module _ (bytes : List ℕ) (h : length bytes ≡ recordSize) (header : Header) 
   unfolding sendOf recordIn
   update-back part ep =
       ap (putPart imageAt 908 bytes)
-      (ep ∙ ap (λ (x : ListAnswer). cond (isListed x) (updating r .image) (imageIn bytes)) (sym ea)
-      ∙ ap (λ (x : Header). cond (isListed answer) (updating (recordOf x (settingsIn bytes) (imageIn bytes)) .image) (imageIn bytes)) eh)
-      ∙ image-put bytes h (isListed answer) (updating (recordOf (headerIn bytes) (settingsIn bytes) (imageIn bytes)) .image)
+      (ep ∙ ap (λ (x : ListAnswer). cond (isListed x) (updating r .host) r .image) (sym ea) ∙ image-of (isListed answer)
+      ∙ ap (λ (x : Header). cond (isListed answer) (updating (recordOf x (settingsIn bytes) (imageIn bytes)) .host .image) (imageIn bytes)) eh)
+      ∙ image-put bytes h (isListed answer) (updating (recordOf (headerIn bytes) (settingsIn bytes) (imageIn bytes)) .host .image)
       ∙ sym (sent updating bytes h header eh lent answer ea)
+    where
+      image-of : (b : Bool) → cond b (updating r .host) r .image ≡ cond b (updating r .host .image) (imageIn bytes)
+      image-of true = refl
+      image-of false = refl
 
   -- how many bytes that are is stored
   pub stored-by : (count : ℕ) → count ≡ updateStored r (length lent) → (old new : ℕ) → new ≡ storedAfter answer count old →

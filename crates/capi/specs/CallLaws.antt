@@ -14,8 +14,8 @@ use Rattle.map.specs.Refusals.{answerNumber, accepted}
 use Rattle.host.specs.declared.Record.{Record}
 use Rattle.host.specs.declared.Changed.{Changed}
 use Rattle.calls.specs.declared.Setting.{Setting}
-use Rattle.host.specs.Record.{openOf, settingOf, powerLostOf}
-use Rattle.host.specs.SettingLaws.{Sets, setting-sets, power-refuses}
+use Rattle.host.specs.Record.{openOf, settingOf, powerLostOf, lockOf}
+use Rattle.host.specs.SettingLaws.{Sets, setting-sets, power-refuses, lock-refuses}
 use Rattle.update.specs.declared.ListAnswer.{ListAnswer}
 use Rattle.update.specs.declared.ListAnswer.the-variants.{Listed, Short, Refused}
 use Rattle.update.specs.declared.Sent.{Sent}
@@ -29,7 +29,7 @@ use Rattle.chip.specs.declared.Chip.{Chip}
 use Rattle.chip.specs.Chip.{atResetOf, feedOf}
 use Rattle.capi.specs.Capi.{recordIn, recordBytes, chipBytes, recordSize, recordSized, chipSized, whenSized, Outcome, settingNumber, settingBytes, settingOutcome, chipNumber, chipAfter, chipOutcome, listAnswer, listBytes, bufferAfter, valueAfter, nAfter, tAfter, storedAfter, ListOutcome, listOutcome, faultsAnswerBy, faultsOutcome}
 use Rattle.capi.specs.CapiLaws.{record-round, record-back, chip-back, record-sized, chip-sized, record-length, chip-length, zero-accepted, zero-listed, list-keeps, stored-keeps, bytes-keep}
-use Rattle.capi.specs.Calls.{openCall, settingCall, powerLostCall, sendCall, updateCall, updateAnswered, updateStores, faultsCall, chipAtResetCall, chipPowerLostCall, chipFeedCall}
+use Rattle.capi.specs.Calls.{openCall, settingCall, powerLostCall, lockCall, sendCall, updateCall, updateAnswered, updateStores, faultsCall, chipAtResetCall, chipPowerLostCall, chipFeedCall}
 
 -- ---- Calls on values, as outcomes
 
@@ -86,6 +86,13 @@ module _ (r : Record) (hs : length (r .settings) ≡ 908) (hi : length (r .image
 
   pub power-lost-call : powerLostCall (recordBytes r) ≡ outcomeOf (powerLostOf r)
   power-lost-call = setting-call powerLostOf power-kept
+
+  lock-kept : accepted (lockOf r .answer) ≡ false → lockOf r .host ≡ r
+  unfolding lockOf
+  lock-kept e = lock-refuses r e
+
+  pub lock-call : lockCall (recordBytes r) ≡ outcomeOf (lockOf r)
+  lock-call = setting-call lockOf lock-kept
 
   list-stored : (x : Sent) (new buffer : List ℕ) (n t : ℕ) → (isListed (x .answer) ≡ false → x .host ≡ r) →
       listOutcome (recordBytes r) x new buffer n t ≡ listOutcomeOf x new n t

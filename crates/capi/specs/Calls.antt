@@ -8,7 +8,7 @@ use Rattle.map.specs.declared.refusals.Answer.the-variants.{Accepted}
 use Rattle.map.specs.declared.refusals.Numbers.{Numbers}
 use Rattle.burst.specs.Burst.{placeOf}
 use Rattle.calls.specs.declared.Setting.{Setting}
-use Rattle.host.specs.Record.{openOf, settingOf, powerLostOf}
+use Rattle.host.specs.Record.{openOf, settingOf, powerLostOf, lockOf}
 use Rattle.host.specs.declared.Record.{Record}
 use Rattle.update.specs.declared.ListAnswer.{ListAnswer}
 use Rattle.update.specs.Update.{Sending, sendOf, sendBuffer, updating, updateStored, resetting, clearing}
@@ -34,6 +34,10 @@ settingNumbersCall bytes q lent = sizedNumbers bytes (settingOf (recordIn bytes)
 -- lp586x_power_lost
 abbrev pub powerLostCall : List ℕ → Outcome
 powerLostCall bytes = settingOutcome bytes (powerLostOf (recordIn bytes))
+
+-- lp586x_lock
+abbrev pub lockCall : List ℕ → Outcome
+lockCall bytes = settingOutcome bytes (lockOf (recordIn bytes))
 
 -- ---- Lists of bus writes
 

@@ -32,20 +32,24 @@ use Rattle.chip.specs.Chip.{chipOf}
 
 -- ---- Records and chips as bytes
 
--- "Bytes of a record: member, bus, pins,"
+-- "Bytes of a record: member, bus, pins, marks,"
 unfoldable pub headerIn : List ℕ → Header
-headerIn bytes = headerOf (getD bytes 0 0) (getD bytes 1 0) (getD bytes 2 0)
+headerIn bytes = headerOf (getD bytes 0 0) (getD bytes 1 0) (getD bytes 2 0) (getD bytes 3 0)
 
--- "908 settings,": where they begin, behind these three
+-- where the marks stand
+abbrev pub marksAt : ℕ
+marksAt = 3
+
+-- "908 settings,": where they begin, behind these four
 abbrev pub settingsAt : ℕ
-settingsAt = 3
+settingsAt = 4
 
 abbrev pub settingsIn : List ℕ → List ℕ
 settingsIn bytes = take 908 (drop settingsAt bytes)
 
--- "908 of the chip as the host believes it.": where they begin
+-- "908 of the chip as the host believes it": where they begin
 abbrev pub imageAt : ℕ
-imageAt = 911
+imageAt = 912
 
 abbrev pub imageIn : List ℕ → List ℕ
 imageIn bytes = take 908 (drop imageAt bytes)
@@ -56,7 +60,7 @@ recordIn bytes = recordOf (headerIn bytes) (settingsIn bytes) (imageIn bytes)
 
 -- the bytes of a header, in the same order
 abbrev pub headerBytes : Header → List ℕ
-headerBytes h = h .member ∷ h .bus ∷ h .pins ∷ []
+headerBytes h = h .member ∷ h .bus ∷ h .pins ∷ h .marks ∷ []
 
 -- and those of a record
 unfoldable pub recordBytes : Record → List ℕ
@@ -79,7 +83,7 @@ chipBytes c = c .member ∷ c .bus ∷ c .pins ∷ c .registers
 
 -- "A record is LP586X_RECORD_SIZE bytes in the caller's memory,"
 abbrev pub recordSize : ℕ
-recordSize = 1819
+recordSize = 1820
 
 unfoldable pub recordSized : List ℕ → Bool
 recordSized bytes = eqb (length bytes) recordSize

@@ -7,7 +7,7 @@ use Prim.Native.Nat.{ℕ, suc, _+_, _≤_, _<_}
 use native.Mathlib.Omega.{arith}
 use borrow.Author.Tests.{eq-eqb, ne-eqb, le-leb, lt-leb}
 use lib.Dec.{eqb}
-use lib.ListN.{length, getD, take, drop, length-append, length-drop, take-append-drop}
+use lib.ListN.{length, getD, take, drop, set, length-append, length-drop, take-append-drop}
 use lib.Seq.{take-all, take-at, drop-at, take-add, drop-drop}
 use Rattle.map.specs.declared.refusals.Answer.{Answer}
 use Rattle.map.specs.declared.refusals.Answer as answers
@@ -16,47 +16,57 @@ use Rattle.map.specs.declared.refusals.Refusal.the-variants.{Member, Bus, Pins,
 use Rattle.map.specs.Refusals.{refusalNumber, answerNumber, accepted}
 use Rattle.host.specs.declared.Record.{Record}
 use Rattle.host.specs.declared.Changed.{Changed}
-use Rattle.host.specs.Record.{recordOf}
+use Rattle.host.specs.Record.{recordOf, markedAs}
 use Rattle.update.specs.declared.ListAnswer.{ListAnswer}
 use Rattle.update.specs.declared.ListAnswer.the-variants.{Listed, Short, Refused}
 use Rattle.update.specs.declared.Sent.{Sent}
 use Rattle.update.specs.Update.{isListed, listNumber}
 use Rattle.chip.specs.declared.Chip.{Chip}
 use Rattle.chip.specs.Chip.{chipOf}
-use Rattle.capi.specs.Capi.{headerIn, settingsAt, settingsIn, imageAt, imageIn, recordIn, recordBytes, registersAt, chipIn, chipBytes, recordSize, recordSized, placeAt, recordsIn, recordsBytes, roundSized, chipSize, chipSized, whenSized, settingNumber, settingBytes, chipNumber, chipAfter, listAnswer, listBytes, valueAfter, nAfter, tAfter, storedAfter, neededAfter}
+use Rattle.capi.specs.Capi.{headerIn, marksAt, settingsAt, settingsIn, imageAt, imageIn, recordIn, headerBytes, recordBytes, registersAt, chipIn, chipBytes, recordSize, recordSized, placeAt, recordsIn, recordsBytes, roundSized, chipSize, chipSized, whenSized, settingNumber, settingBytes, chipNumber, chipAfter, listAnswer, listBytes, valueAfter, nAfter, tAfter, storedAfter, neededAfter}
 
 -- ---- the bytes read back
 
--- the three bytes before the images
+-- the three bytes before the registers of a chip
 pub front : (bytes l : List ℕ) → 3 ≤ length bytes → take 3 bytes ++ l ≡ getD bytes 0 0 ∷ getD bytes 1 0 ∷ getD bytes 2 0 ∷ l
 front [] l h = absurd (omega arith)
 front (m ∷ []) l h = absurd (omega arith)
 front (m ∷ b ∷ []) l h = absurd (omega arith)
 front (m ∷ b ∷ p ∷ rest) l h = refl
 
+-- the four bytes before the images of a record
+header-front : (bytes l : List ℕ) → 4 ≤ length bytes → take settingsAt bytes ++ l ≡ headerBytes (headerIn bytes) ++ l
+unfolding headerIn
+header-front [] l h = absurd (omega arith)
+header-front (m ∷ []) l h = absurd (omega arith)
+header-front (m ∷ b ∷ []) l h = absurd (omega arith)
+header-front (m ∷ b ∷ p ∷ []) l h = absurd (omega arith)
+header-front (m ∷ b ∷ p ∷ k ∷ rest) l h = refl
+
 -- they and the settings
-front-settings : (bytes : List ℕ) → 3 ≤ length bytes → take imageAt bytes ≡ take settingsAt bytes ++ take 908 (drop settingsAt bytes)
+front-settings : (bytes : List ℕ) → 4 ≤ length bytes → take imageAt bytes ≡ take settingsAt bytes ++ take 908 (drop settingsAt bytes)
 front-settings [] h = absurd (omega arith)
 front-settings (m ∷ []) h = absurd (omega arith)
 front-settings (m ∷ b ∷ []) h = absurd (omega arith)
-front-settings (m ∷ b ∷ p ∷ rest) h = refl
+front-settings (m ∷ b ∷ p ∷ []) h = absurd (omega arith)
+front-settings (m ∷ b ∷ p ∷ k ∷ rest) h = refl
 
 -- the record that the bytes begin with, with another image
-image-behind : (bytes : List ℕ) → 3 ≤ length bytes → (image : List ℕ) →
+image-behind : (bytes : List ℕ) → 4 ≤ length bytes → (image : List ℕ) →
     recordBytes (recordOf (headerIn bytes) (settingsIn bytes) image) ≡ take imageAt bytes ++ image
-unfolding headerIn recordBytes
+unfolding recordBytes
 image-behind bytes h image =
-    sym (front bytes (settingsIn bytes ++ image) h)
+    sym (header-front bytes (settingsIn bytes ++ image) h)
     ∙ sym (append-assoc (take settingsAt bytes) (settingsIn bytes) image)
     ∙ ap (λ (l : List ℕ). l ++ image) (sym (front-settings bytes h))
 
 module _ (bytes : List ℕ) (h : length bytes ≡ recordSize) where
   -- the record that the bytes hold, with other settings: only their part of the bytes is another
   pub settings-stored : (settings : List ℕ) → recordBytes (recordOf (headerIn bytes) settings (imageIn bytes)) ≡ take settingsAt bytes ++ (settings ++ drop imageAt bytes)
-  unfolding headerIn recordBytes
+  unfolding recordBytes
   settings-stored settings =
-      ap (λ (l : List ℕ). getD bytes 0 0 ∷ getD bytes 1 0 ∷ getD bytes 2 0 ∷ settings ++ l) (take-all 908 (drop imageAt bytes) (omega (arith, length-drop imageAt bytes)))
-      ∙ sym (front bytes (settings ++ drop imageAt bytes) (omega arith))
+      ap (λ (l : List ℕ). headerBytes (headerIn bytes) ++ (settings ++ l)) (take-all 908 (drop imageAt bytes) (omega (arith, length-drop imageAt bytes)))
+      ∙ sym (header-front bytes (settings ++ drop imageAt bytes) (omega arith))
 
   -- with another image
   pub image-stored : (image : List ℕ) → recordBytes (recordOf (headerIn bytes) (settingsIn bytes) image) ≡ take imageAt bytes ++ image
@@ -69,6 +79,11 @@ module _ (bytes : List ℕ) (h : length bytes ≡ recordSize) where
       image-stored (imageIn bytes)
       ∙ ap (λ (l : List ℕ). take imageAt bytes ++ l) (take-all 908 (drop imageAt bytes) (omega (arith, length-drop imageAt bytes)))
       ∙ take-append-drop imageAt bytes
+
+-- a record with other marks: only their byte is another
+pub marks-stored : (r : Record) (marks : ℕ) → set (recordBytes r) marksAt marks ≡ recordBytes (recordOf (markedAs (r .header) marks) (r .settings) (r .image))
+unfolding recordBytes
+marks-stored r marks = refl
 
 -- bytes of the right size are those of the chip that they hold
 pub chip-round : (bytes : List ℕ) → length bytes ≡ chipSize → chipBytes (chipIn bytes) ≡ bytes

@@ -1,6 +1,6 @@
 // The C interface, include/lp586x.h.
 //
-// A record is 1,819 bytes in the caller's memory and a chip 911. A call works on them where they stand: it lends their parts to the
+// A record is 1,820 bytes in the caller's memory and a chip 911. A call works on them where they stand: it lends their parts to the
 // functions of host, update, faults and chip, and what changes is stored there and nothing else. It answers 0 or the number of its
 // refusal; bytes of another size are refused as an unsound record is. A slice is a pointer and a length in C.
 mod lists;
@@ -11,7 +11,7 @@ ghost use mathlib.Core.Path.{_≡_};
 ghost use mathlib.Core.List.{[]};
 ghost use Rattle.map.specs.declared.refusals.Refusal.the-variants.{Unsound};
 ghost use Rattle.map.specs.Refusals.{refusalNumber};
-ghost use Rattle.capi.specs.Calls.{openCall, settingCall, settingNumbersCall, powerLostCall, updateCall, updateStores, updateNeeded, resetCall, clearCall, roundCall, transactionCall, faultsCall, chipAtResetCall, chipPowerLostCall, chipFeedCall};
+ghost use Rattle.capi.specs.Calls.{openCall, settingCall, settingNumbersCall, powerLostCall, lockCall, updateCall, updateStores, updateNeeded, resetCall, clearCall, roundCall, transactionCall, faultsCall, chipAtResetCall, chipPowerLostCall, chipFeedCall};
 use burst::Place;
 use calls::Setting;
 use map::Answer;
@@ -145,6 +145,21 @@ pub extern "C" fn lp586x_power_lost(bytes: &mut [u8]) -> u32
     let header = records::header(bytes);
     let answer = host::sound_answer(header, &bytes[SETTINGS..IMAGE], &bytes[IMAGE..RECORD_SIZE]);
     host::put_lost(answer, header, &mut bytes[IMAGE..RECORD_SIZE]);
+    records::mark(answer, bytes, host::FREE);
+    map::answer_number(answer) as u32
+}
+
+#[no_mangle]
+pub extern "C" fn lp586x_lock(bytes: &mut [u8]) -> u32
+    ensures { λ r. ⌜ r ≡ lockCall (now (bytes .entry)) .answer ⌝ }
+    ensures { λ _. ⌜ now (bytes .exit) ≡ lockCall (now (bytes .entry)) .bytes ⌝ }
+{
+    if bytes.len() != RECORD_SIZE {
+        return wrong_size();
+    }
+    let header = records::header(bytes);
+    let answer = host::lock_answer(header, &bytes[SETTINGS..IMAGE], &bytes[IMAGE..RECORD_SIZE]);
+    records::mark(answer, bytes, host::LOCKED);
     map::answer_number(answer) as u32
 }
 
@@ -196,6 +211,7 @@ pub extern "C" fn lp586x_reset(bytes: &mut [u8], buffer: &mut [u8], n: &mut u32,
     let image = &bytes[IMAGE..RECORD_SIZE];
     let answer = update::reset_parts(header, settings, image, buffer);
     lists::keep_reset(answer, header, &mut bytes[IMAGE..RECORD_SIZE]);
+    lists::release(answer, bytes);
     lists::count(answer, n, t)
 }
 

@@ -1,12 +1,13 @@
-// What a call stores that writes a list: the chip image, n and t, how many bytes of the image, and the length needed.
+// What a call stores that writes a list: the chip image, the marks, n and t, how many bytes of the image, and the length needed.
 ghost use mathlib.Core.Path.{_≡_};
 ghost use mathlib.Core.Bool.{cond, _&&_};
 ghost use Prim.Native.Nat.{_+_, _^_, _<_, _≤_};
 ghost use lib.Dec.{eqb};
-ghost use lib.ListN.{length};
+ghost use lib.ListN.{length, set};
 ghost use Rattle.map.specs.Images.{resetImage};
+ghost use Rattle.host.specs.Record.{free};
 ghost use Rattle.update.specs.Update.{isListed, listNumber};
-ghost use Rattle.capi.specs.Capi.{putImage, nAfter, tAfter, storedAfter, neededAfter, Fits};
+ghost use Rattle.capi.specs.Capi.{marksAt, putImage, nAfter, tAfter, storedAfter, neededAfter, Fits};
 use crate::records;
 use host::Header;
 use map::Refusal;
@@ -30,6 +31,18 @@ pub(crate) fn keep_reset(answer: ListAnswer, header: Header, image: &mut [u8])
 {
     match answer {
         ListAnswer::Listed { n: _, t: _ } => images::put_reset(header.member as usize, image),
+        ListAnswer::Short { needed: _ } => {}
+        ListAnswer::Refused(_) => {}
+    }
+}
+
+// The marks that a Reset leaves: it releases the lock.
+pub(crate) fn release(answer: ListAnswer, bytes: &mut [u8])
+    requires { ⌜ 4 ≤ length (now bytes) ⌝ }
+    ensures { λ _. ⌜ now (bytes .exit) ≡ cond (isListed answer) (set (now (bytes .entry)) marksAt free) (now (bytes .entry)) ⌝ }
+{
+    match answer {
+        ListAnswer::Listed { n: _, t: _ } => records::put_marks(bytes, host::FREE),
         ListAnswer::Short { needed: _ } => {}
         ListAnswer::Refused(_) => {}
     }

@@ -1,15 +1,20 @@
 // Where the parts of a record and of a chip stand in the bytes that a C program keeps, and what Open puts there.
 ghost use mathlib.Core.Path.{_≡_};
+ghost use mathlib.Core.Bool.{cond};
 ghost use mathlib.Core.List.{_∷_};
 ghost use Prim.Native.Nat.{_+_, _<_, _≤_};
-ghost use lib.ListN.{length, take, drop};
+ghost use lib.ListN.{length, take, drop, set};
+ghost use Rattle.map.specs.Refusals.{accepted};
 ghost use Rattle.host.specs.Record.{opened};
 ghost use Rattle.chip.specs.Chip.{newChip};
-ghost use Rattle.capi.specs.Capi.{headerIn, putImage, recordBytes, recordSize, chipBytes, chipSize};
+ghost use Rattle.capi.specs.Capi.{headerIn, marksAt, putImage, recordBytes, recordSize, chipBytes, chipSize};
 use host::Header;
+use map::Answer;
 
-// Where the settings and the chip image of a record begin, and where it ends.
-pub(crate) const SETTINGS: usize = 3;
+// Where the marks, the settings and the chip image of a record begin, and where it ends.
+pub(crate) const MARKS: usize = 3;
+
+pub(crate) const SETTINGS: usize = MARKS + 1;
 
 pub(crate) const IMAGE: usize = SETTINGS + 908;
 
@@ -21,13 +26,14 @@ pub(crate) const REGISTERS: usize = 3;
 pub(crate) const CHIP_SIZE: usize = REGISTERS + 908;
 
 pub(crate) fn header(bytes: &[u8]) -> Header
-    requires { ⌜ 3 ≤ length (now bytes) ⌝ }
+    requires { ⌜ 4 ≤ length (now bytes) ⌝ }
     ensures { λ r. ⌜ r ≡ headerIn (now (bytes .entry)) ⌝ }
 {
     Header {
         member: bytes[0],
         bus: bytes[1],
         pins: bytes[2],
+        marks: bytes[MARKS],
     }
 }
 
@@ -56,7 +62,26 @@ pub(crate) fn put_image(bytes: &mut [u8], at: usize, image: &[u8; 908])
     }
 }
 
-// The bytes before the images.
+// The marks of a record.
+pub(crate) fn put_marks(bytes: &mut [u8], marks: u8)
+    requires { ⌜ 4 ≤ length (now bytes) ⌝ }
+    ensures { λ _. ⌜ now (bytes .exit) ≡ set (now (bytes .entry)) marksAt marks ⌝ }
+{
+    bytes[MARKS] = marks;
+}
+
+// The marks that a call with this answer leaves.
+pub(crate) fn mark(answer: Answer, bytes: &mut [u8], marks: u8)
+    requires { ⌜ 4 ≤ length (now bytes) ⌝ }
+    ensures { λ _. ⌜ now (bytes .exit) ≡ cond (accepted answer) (set (now (bytes .entry)) marksAt marks) (now (bytes .entry)) ⌝ }
+{
+    match answer {
+        Answer::Accepted => put_marks(bytes, marks),
+        Answer::Refused(_) => {}
+    }
+}
+
+// The bytes that a record and a chip begin with.
 fn put_front(bytes: &mut [u8], member: u8, bus: u8, pins: u8)
     requires { ⌜ 3 ≤ length (now bytes) ⌝ }
     ensures { λ _. ⌜ now (bytes .exit) ≡ member ∷ bus ∷ pins ∷ drop 3 (now (bytes .entry)) ⌝ }
@@ -66,12 +91,13 @@ fn put_front(bytes: &mut [u8], member: u8, bus: u8, pins: u8)
     bytes[2] = pins;
 }
 
-// A record that was opened: the front, and the member's reset values for both images.
+// A record that was opened: the front, no lock, and the member's reset values for both images.
 pub(crate) fn put_record(bytes: &mut [u8], member: usize, bus: usize, pins: usize)
     requires { ⌜ (length (now bytes) ≡ recordSize) × (member < 5) × (bus < 2) × (pins < 4) ⌝ }
     ensures { λ _. ⌜ now (bytes .exit) ≡ recordBytes (opened member bus pins) ⌝ }
 {
     put_front(bytes, member as u8, bus as u8, pins as u8);
+    put_marks(bytes, host::FREE);
     images::put_reset(member, &mut bytes[SETTINGS..IMAGE]); // the settings
     images::put_reset(member, &mut bytes[IMAGE..RECORD_SIZE]); // the chip image
 }

@@ -10,6 +10,7 @@ ghost use Rattle.capi.specs.Capi.{headerIn, placeAt, recordsIn, recordsB
 use crate::lists;
 use crate::records;
 use crate::records::IMAGE;
+use crate::records::MARKS;
 use crate::records::RECORD_SIZE;
 use crate::records::SETTINGS;
 use host::Header;
@@ -39,13 +40,14 @@ const FOURTH_IMAGE: usize = FOURTH + IMAGE;
 pub(crate) const RECORDS_SIZE: usize = FOURTH + RECORD_SIZE;
 
 fn header(bytes: &[u8], at: usize) -> Header
-    requires { ⌜ at + 3 ≤ length (now bytes) ⌝ }
+    requires { ⌜ at + 4 ≤ length (now bytes) ⌝ }
     ensures { λ r. ⌜ r ≡ headerIn (drop at (now (bytes .entry))) ⌝ }
 {
     Header {
         member: bytes[at],
         bus: bytes[at + 1],
         pins: bytes[at + 2],
+        marks: bytes[at + MARKS],
     }
 }
 

@@ -15,14 +15,15 @@ use Rattle.calls.specs.declared.Setting.{Setting}
 use Rattle.calls.specs.declared.Request.{Request}
 use Rattle.calls.specs.declared.Request.the-variants.{Set}
 use Rattle.host.specs.declared.Changed.{Changed}
-use Rattle.host.specs.Record.{headerOf, recordOf, soundOf, settingOf}
+use Rattle.host.specs.Record.{headerOf, recordOf, free, isLocked, marksOk, soundOf, settingOf}
+use Rattle.host.specs.LockLaws.{free-unlocked}
 use Rattle.chip.specs.declared.Chip.{Chip}
 use Rattle.history.specs.declared.World.{World}
 use Rattle.history.specs.declared.Stepped.{Stepped}
 use Rattle.history.specs.declared.Ledger.{Ledger}
 use Rattle.history.specs.Step.{Step, leaving, changeStep, stepOf}
 use Rattle.history.specs.Ledger.{entry, toldOf, openedLedger, enteredOf}
-use Rattle.history.specs.LedgerLaws.{setting-enters}
+use Rattle.history.specs.LedgerLaws.{free-out, setting-enters}
 
 -- ---- steps
 
@@ -40,34 +41,45 @@ pub opened-is : (m k : ℕ) (bytes : List ℕ) → k ≡ cond (ltb m 5) m 0 → 
 unfolding openedLedger
 opened-is m k bytes e b = rw (b, e) refl
 
-pub entered-is : (g : Ledger) (request : Request) (lent bytes : List ℕ) →
-    bytes ≡ cond (imageOk (g .member) (g .bytes)) (entry (g .member) (g .bytes) request lent) (g .bytes) →
-    record { member = g .member; bytes = bytes } ≡ enteredOf g (toldOf request lent)
-unfolding enteredOf
-entered-is g request lent bytes e = ap (λ (l : List ℕ). record { member = g .member; bytes = l }) e
+module _ (g : Ledger) (request : Request) (lent : List ℕ) (locked : Bool) where
+  -- a call that was answered 17 enters nothing
+  pub kept-by : locked ≡ true → g ≡ enteredOf g (toldOf request lent locked)
+  unfolding enteredOf
+  kept-by e = rw e (ap (λ (l : List ℕ). record { member = g .member; bytes = l }) (go (imageOk (g .member) (g .bytes))))
+    where
+      go : (b : Bool) → g .bytes ≡ cond b (g .bytes) (g .bytes)
+      go true = refl
+      go false = refl
+
+  -- any other its entry
+  pub entered-by : locked ≡ false → (bytes : List ℕ) →
+      bytes ≡ cond (imageOk (g .member) (g .bytes)) (entry (g .member) (g .bytes) request lent) (g .bytes) →
+      record { member = g .member; bytes = bytes } ≡ enteredOf g (toldOf request lent locked)
+  unfolding enteredOf
+  entered-by e bytes q = rw e (ap (λ (l : List ℕ). record { member = g .member; bytes = l }) q)
 
 module _ (m : ℕ) (bytes : List ℕ) where
   -- a record of the ledger's bytes, on bus 0 with pins 0, is sound where its bytes are an image of the member
-  image-sound : soundOf (recordOf (headerOf m 0 0) bytes bytes) ≡ imageOk m bytes
-  unfolding soundOf opens imageOk
+  image-sound : soundOf (recordOf (headerOf m 0 0 free) bytes bytes) ≡ imageOk m bytes
+  unfolding soundOf marksOk isLocked opens imageOk
   image-sound = go (decLt m 5)
     where
-      go : Dec (m < 5) → soundOf (recordOf (headerOf m 0 0) bytes bytes) ≡ imageOk m bytes
+      go : Dec (m < 5) → soundOf (recordOf (headerOf m 0 0 free) bytes bytes) ≡ imageOk m bytes
       go (yes h) = rw (open-i2c m 0 0 (omega arith) (omega arith) refl, lt-ltb m 5 h) (twice _)
         where
-          twice : (b : Bool) → (b && b) ≡ b
+          twice : (b : Bool) → (b && (b && true)) ≡ b
           twice true = refl
           twice false = refl
       go (no n) = rw (open-member m 0 0 (omega arith), le-ltb m 5 (omega arith)) refl
 
   -- what a setting leaves in that record
-  pub set-is : (q : Setting) (lent : List ℕ) (x : Changed) → x ≡ settingOf (recordOf (headerOf m 0 0) bytes bytes) q lent →
+  pub set-is : (q : Setting) (lent : List ℕ) (x : Changed) → x ≡ settingOf (recordOf (headerOf m 0 0 free) bytes bytes) q lent →
       x .host .settings ≡ cond (imageOk m bytes) (entry m bytes (Set q) lent) bytes
   set-is q lent x e =
-      let asked = recordOf (headerOf m 0 0) bytes bytes in
+      let asked = recordOf (headerOf m 0 0 free) bytes bytes in
       ap (λ (y : Changed). y .host .settings) e
       ∙ setting-enters asked q lent
-      ∙ ap (λ (b : Bool). cond b (entry m bytes (Set q) lent) bytes) image-sound
+      ∙ ap₂ (λ (b c : Bool). cond b (cond c bytes (entry m bytes (Set q) lent)) bytes) image-sound (free-out (headerOf m 0 0 free) (free-unlocked (headerOf m 0 0 free) refl) q)
 
   module _ (request x : Request) (lent : List ℕ) (e : request ≡ x) where
     -- the bytes after a call, by its case

@@ -2,7 +2,7 @@
 -- Assumes nothing.
 use mathlib.Core.Path.{_≡_, refl, sym, ap, ap₂, _∙_, subst}
 use mathlib.Core.Bool.{true, false≢true}
-use mathlib.Core.List.{List, [], _∷_, _++_, map}
+use mathlib.Core.List.{List, [], _∷_}
 use Prim.Native.Nat.{ℕ, _≤_}
 use native.Mathlib.Omega.{arith}
 use lib.ListN.{length}
@@ -21,11 +21,10 @@ use Rattle.chip.specs.Chip.{chipOf, hear, feedOf}
 use Rattle.chip.specs.ChipLaws.{sound-is, hear-registers}
 use Rattle.chip.specs.ClearLaws.{lodWrite, lsdWrite, clearWrite, hear-clear-outside, fed, fed-clear, FedBoth, fed-both}
 use Rattle.history.specs.declared.World.{World}
-use Rattle.history.specs.Ledger.{Told, toldOf, entries, ledger}
-use Rattle.history.specs.LedgerLaws.{entries-append}
+use Rattle.history.specs.Ledger.{entries}
 use Rattle.history.specs.Step.{fedBy, clearStep}
-use Rattle.history.specs.History.{Call, Event, call, part, start, run, ledgerAfter}
-use Rattle.history.specs.WorldLaws.{front, Holds, Follows, chip-sound, start-holds, sent-holds, run-holds, callsIn, told-calls}
+use Rattle.history.specs.History.{Event, start, run, told, ledgerAfter}
+use Rattle.history.specs.WorldLaws.{front, Holds, Follows, chip-sound, start-holds, sent-holds, run-holds, told-alone, ledger-append}
 use Rattle.history.specs.Theorem.{holds-owes, opened}
 use Rattle.history.specs.Clear.{Paired, ClearClaim, Stretch, runClears, eventsOf, ClearedLists}
 
@@ -81,40 +80,39 @@ module _ (m b p : ℕ) (o : opens m b p ≡ true) where
   -- a Clear keeps what holds after every event
   clear-holds : (s : List ℕ) (w : World) → Holds m b p s w → (buffer : List ℕ) → Holds m b p s (clearStep w buffer .world)
   clear-holds s w h buffer =
-      let host : Record = recordOf (headerOf m b p) s (h .image) in
+      let host : Record = recordOf (headerOf m b p (h .marks)) s (h .image) in
       let after : List ℕ = hear m (h .registers) clearWrite in
       let follows : Follows m b p o s w h (clearing host) = record {
         no-list = refl;
+        marks = h .marks;
+        image = h .image;
+        leaves = refl;
         after = after;
         fed = fed-clear (chipOf m b p (h .registers)) (chip-sound m b p o s w h);
         image-fit = h .image-fit;
+        marks-fit = h .marks-fit;
         after-fit = hear-registers m (h .registers) clearWrite (h .registers-fit);
         follows = λ a l k. h .same a l k ∙ sym (hear-clear-outside m (h .registers) a (apart m a k));
       } in
       subst (λ (x : World). Holds m b p s (clearStep x buffer .world)) (sym (h .is)) (sent-holds m b p o s w h (clearing host) follows buffer)
 
-  -- what the ledger is told of events, whatever the world
-  abbrev tells : List Event → List Told
-  tells es = map (λ (c : Call). toldOf (c .request) (c .lent)) (callsIn es)
+  -- it leaves the record, so that the ledger is told the same behind it
+  clear-told : (w : World) (buffer : List ℕ) (es : List Event) → told (clearStep w buffer .world) es ≡ told w es
+  clear-told w buffer es =
+      ap (λ (r : Record). told (record { host = r; chip = clearStep w buffer .world .chip }) es) (clear-leaves (w .host) (length buffer))
+      ∙ told-alone es w (clearStep w buffer .world .chip)
 
-  tells-append : (xs ys : List Event) → tells (xs ++ ys) ≡ tells xs ++ tells ys
-  tells-append [] ys = refl
-  tells-append (call c ∷ xs) ys = ap (λ (l : List Told). toldOf (c .request) (c .lent) ∷ l) (tells-append xs ys)
-  tells-append (part room ∷ xs) ys = tells-append xs ys
-
-  stretches-hold : (xs : List Stretch) (s : List ℕ) (w : World) → Holds m b p s w → Holds m b p (entries m s (tells (eventsOf xs))) (runClears w xs)
+  stretches-hold : (xs : List Stretch) (s : List ℕ) (w : World) → Holds m b p s w → Holds m b p (entries m s (told w (eventsOf xs))) (runClears w xs)
   stretches-hold [] s w h = h
   stretches-hold (x ∷ xs) s w h =
-      let ran : Holds m b p (entries m s (tells (x .events))) (run w (x .events)) =
-      subst (λ (l : List Told). Holds m b p (entries m s l) (run w (x .events))) (told-calls (x .events) w) (run-holds m b p o (x .events) s w h) in
-      let rest = stretches-hold xs (entries m s (tells (x .events))) (clearStep (run w (x .events)) (x .buffer) .world) (clear-holds _ _ ran (x .buffer)) in
+      let ran : World = run w (x .events) in
+      let asked : List ℕ = entries m s (told w (x .events)) in
+      let rest = stretches-hold xs asked (clearStep ran (x .buffer) .world) (clear-holds asked ran (run-holds m b p o (x .events) s w h) (x .buffer)) in
       subst (λ (l : List ℕ). Holds m b p l (runClears w (x ∷ xs)))
-      (sym (ap (entries m s) (tells-append (x .events) (eventsOf xs)) ∙ entries-append m (tells (x .events)) (tells (eventsOf xs)) s)) rest
+      (ap (entries m asked) (clear-told ran (x .buffer) (eventsOf xs)) ∙ sym (ledger-append m s w (x .events) (eventsOf xs))) rest
 
 pub cleared-lists : ClearedLists
 cleared-lists m b p e xs behind =
     let o = opened m b p e in
     holds-owes m b p o (ledgerAfter m b p (eventsOf xs)) (runClears (start m b p) xs)
-    (subst (λ (l : List Told). Holds m b p (ledger m l) (runClears (start m b p) xs)) (sym (told-calls (eventsOf xs) (start m b p)))
-    (stretches-hold m b p o xs (resetImage m) (start m b p) (start-holds m b p o)))
-    behind
+    (stretches-hold m b p o xs (resetImage m) (start m b p) (start-holds m b p o)) behind

@@ -1,6 +1,6 @@
--- Demand 3, a claim about whole lists of calls, and of parts among them: document 01, "The ledger and whole lists", and Q-3 of document 02.
--- m, b and p are the member, bus and pins that Open was given. Quotations are of document 01, but for those that are marked as the wording
--- of demand 3 itself or of Q-3.
+-- Demand 3, a claim about whole lists of calls, and of parts among them: document 01, "The ledger and whole lists", and Q-3 and Q-5 of
+-- document 02. m, b and p are the member, bus and pins that Open was given. Quotations are of document 01, but for those that are marked as
+-- the wording of demand 3 itself, of Q-3 or of Q-5.
 -- Assumes nothing.
 use mathlib.Core.Path.{_≡_}
 use mathlib.Core.Bool.{true}
@@ -22,7 +22,7 @@ use Rattle.chip.specs.Chip.{atResetOf, decodeOf, feedOf}
 use Rattle.history.specs.declared.World.{World}
 use Rattle.history.specs.declared.CallAnswer as answers
 use Rattle.history.specs.Ledger.{Told, toldOf, entries, ledger, wantsOn}
-use Rattle.history.specs.Step.{listIn, stepOf, partOf, partStep}
+use Rattle.history.specs.Step.{answersLocked, listIn, stepOf, partOf, partStep}
 
 -- ---- Lists of events
 
@@ -55,9 +55,9 @@ run w (e ∷ es) = run (eventStep w e) es
 abbrev pub worldAfter : ℕ → ℕ → ℕ → List Event → World
 worldAfter m b p events = run (start m b p) events
 
--- What the ledger is told of a call on the world w: "all their arguments but the record, and never an answer."
+-- What the ledger is told of a call on the world w: "all their arguments but the record", and of its answer no more than whether it is 17.
 abbrev pub tell : World → Call → Told
-tell w c = toldOf (c .request) (c .lent)
+tell w c = toldOf (c .request) (c .lent) (answersLocked (stepOf w (c .request) (c .lent) .answer))
 
 -- "the calls in order": of each next one on the world that the last one left. A part sets nothing, and the ledger hears nothing of it.
 abbrev pub told : World → List Event → List Told
@@ -76,8 +76,9 @@ abbrev pub SameWritable : ℕ → List ℕ → List ℕ → Type 0
 SameWritable m x y = (a : ℕ) → writableOf m a ≡ true → getD x a 0 ≡ getD y a 0
 
 -- A transaction x is "a write to this chip and each data byte, heard or not, for a writable address", one that may be written by the
--- record's header h (`may-write-after` of WorldLaws: after any list of events these are the member's writable ones). `burstOf` has the
--- address of the head and the data behind it.
+-- record's header h: Q-5, "rivals in the byte comparison keep off locked addresses as well" (`may-writable` of host: these are among the
+-- member's writable ones, and all of them where the record is not locked, `free-write`). `burstOf` has the address of the head and the data
+-- behind it.
 pub record Allowed (b p : ℕ) (h : Header) (x : List ℕ) : Type 0 where
   pub write : decodeOf b p (getD x 0 0) (getD x 1 0) ≡ Write (burstOf b x .start)
   pub may : (i : ℕ) → i < length (burstOf b x .bytes) → mayWrite h (burstOf b x .start + i) ≡ true
@@ -115,7 +116,8 @@ module _ (m b p : ℕ) where
   -- What is owed behind an accepted Update that wrote `list` and answered n and t: `before` and `after` are the worlds before and after
   -- it, and s is the ledger.
   pub record Owed (s : List ℕ) (before after : World) (list : List ℕ) (n t : ℕ) : Type 0 where
-    -- demand 3: "with chip enable wanted on, the chip holds in every writable register exactly what the ledger of accepted settings says"
+    -- demand 3: "with chip enable wanted on, the chip holds in every writable register exactly what the ledger of accepted settings says",
+    -- and Q-5: "demand 3's register values stay owed at these two", locked or not
     pub values : wantsOn s ≡ true → SameWritable m (after .chip .registers) s
     -- demand 3: "every rival list .. has at least as many bus bytes as the update reports."
     pub fewest : (l : List ℕ) → Rival m b p before after l → t ≤ tOf l

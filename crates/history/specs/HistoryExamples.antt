@@ -68,7 +68,7 @@ no-ledger x = refl
 
 -- calls with nothing lent
 abbrev plain : Request → Told
-plain request = toldOf request []
+plain request = toldOf request [] false
 
 abbrev setting : Setting → Told
 setting q = plain (Set q)

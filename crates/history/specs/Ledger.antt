@@ -1,4 +1,4 @@
--- The ledger: document 01, "The ledger and whole lists". m is a member, s the ledger's bytes, `lent` the bytes of a scene.
+-- The ledger: document 01, "The ledger and whole lists", and what it is told of a lock: document 02, Q-5. m is a member, s the ledger's bytes, `lent` the bytes of a scene.
 -- Assumes nothing.
 use mathlib.Core.Bool.{Bool, cond, _&&_}
 use mathlib.Core.List.{List, [], _∷_}
@@ -12,7 +12,7 @@ use Rattle.dots.specs.Dots.{topLevel}
 use Rattle.calls.specs.declared.Setting.{Setting}
 use Rattle.calls.specs.declared.Setting.the-variants.{Register, Lamp, Group, Switch, Scene}
 use Rattle.calls.specs.declared.Request.{Request}
-use Rattle.calls.specs.declared.Request.the-variants.{Set, Reset, PowerLost, Update}
+use Rattle.calls.specs.declared.Request.the-variants.{Set, Reset, PowerLost, Update, Lock}
 use Rattle.host.specs.Record.{sceneCount, sceneSized, sceneHasDot, sceneFits, putSetting}
 use Rattle.history.specs.declared.Ledger.{Ledger}
 
@@ -49,24 +49,27 @@ settingMeets m s Scene lent = sceneMeets m s lent
 -- ---- The ledger's bytes
 
 -- after a call: "that byte takes the value", "the dot's PWM byte or bytes take it", "the dot's bits take it", "the entries act as
--- Lamps in order". "A setting that fails its condition is refused and changes nothing, nor do Update, Reset and Power lost."
+-- Lamps in order". "A setting that fails its condition is refused and changes nothing, nor do Update, Reset and Power lost.", nor Lock
 abbrev pub entry : ℕ → List ℕ → Request → List ℕ → List ℕ
 entry m s (Set q) lent = cond (settingMeets m s q lent) (putSetting s q lent) s
 entry m s Reset lent = s
 entry m s PowerLost lent = s
 entry m s Update lent = s
+entry m s Lock lent = s
 
--- What the ledger is told of a call: it "is fed the calls in order, with all their arguments but the record, and never an answer."
+-- What the ledger is told of a call: it "is fed the calls in order, with all their arguments but the record, and never an answer." But Q-5:
+-- "With locking in demand 3's list the ledger is told of each 17, of no other answer": whether the call was answered so.
 pub record Told : Type 0 where
   pub request : Request
   pub lent : List ℕ
+  pub locked : Bool
 
-abbrev pub toldOf : Request → List ℕ → Told
-toldOf request lent = record { request = request; lent = lent }
+abbrev pub toldOf : Request → List ℕ → Bool → Told
+toldOf request lent locked = record { request = request; lent = lent; locked = locked }
 
--- after a call that it was told of
+-- after a call that it was told of: "and such a Register changes nothing there"
 abbrev pub entered : ℕ → List ℕ → Told → List ℕ
-entered m s x = entry m s (x .request) (x .lent)
+entered m s x = cond (x .locked) s (entry m s (x .request) (x .lent))
 
 -- after all of them
 abbrev pub entries : ℕ → List ℕ → List Told → List ℕ

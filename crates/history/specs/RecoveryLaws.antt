@@ -9,10 +9,10 @@ use Rattle.map.specs.Images.{resetImage}
 use Rattle.map.specs.Refusals.{accepted}
 use Rattle.dots.specs.DotImages.{reset-image}
 use Rattle.burst.specs.Burst.{Burst, encode}
-use Rattle.calls.specs.declared.Request.{Request}
-use Rattle.calls.specs.declared.Request.the-variants.{Set, Reset, PowerLost, Update}
+use Rattle.calls.specs.declared.Request.the-variants.{Reset}
 use Rattle.host.specs.declared.Record.{Record}
-use Rattle.host.specs.Record.{headerOf, recordOf, soundOf, openOf}
+use Rattle.host.specs.Record.{headerOf, recordOf, free, soundOf, openOf}
+use Rattle.host.specs.LockLaws.{free-marks}
 use Rattle.host.specs.SoundLaws.{Sound, sound-is}
 use Rattle.update.specs.declared.ListAnswer.{ListAnswer}
 use Rattle.update.specs.declared.ListAnswer.the-variants.{Listed}
@@ -26,19 +26,20 @@ use Rattle.chip.specs.FeedLaws.{feed-reset}
 use Rattle.history.specs.declared.World.{World}
 use Rattle.history.specs.declared.CallAnswer as answers
 use Rattle.history.specs.Ledger.{entries}
+use Rattle.history.specs.LedgerLaws.{enters-nothing}
 use Rattle.history.specs.Step.{listIn, fedBy, stepOf}
-use Rattle.history.specs.History.{Event, call, part, eventStep, start, run, worldAfter, told, ledgerAfter}
-use Rattle.history.specs.WorldLaws.{front, worldOf, Holds, is-so, history-holds, told-calls, ledger-append}
+use Rattle.history.specs.History.{Call, Event, call, start, worldAfter, tell, told, ledgerAfter}
+use Rattle.history.specs.WorldLaws.{front, worldOf, Holds, is-so, history-holds, told-alone, ledger-append}
 use Rattle.history.specs.Theorem.{listOf, holds-owes, opened}
 use Rattle.history.specs.Recovery.{failed, ResetAnswers, resetWorld, RecoveredLists}
 
 -- ---- an accepted Reset
 
 -- of a record with any image, beside a sound chip with any registers
-module _ (m b p : ℕ) (s image registers : List ℕ) (chip-sound : Rattle.chip.specs.Chip.soundOf (chipOf m b p registers) ≡ true)
-    (buffer : List ℕ) (n t : ℕ) (e : ResetAnswers (worldOf m b p s image registers) buffer n t) where
+module _ (m b p marks : ℕ) (s image registers : List ℕ) (chip-sound : Rattle.chip.specs.Chip.soundOf (chipOf m b p registers) ≡ true)
+    (buffer : List ℕ) (n t : ℕ) (e : ResetAnswers (worldOf m b p marks s image registers) buffer n t) where
   abbrev host : Record
-  host = recordOf (headerOf m b p) s image
+  host = recordOf (headerOf m b p marks) s image
 
   abbrev chip : Chip
   chip = chipOf m b p registers
@@ -57,9 +58,9 @@ module _ (m b p : ℕ) (s image registers : List ℕ) (chip-sound : Rattle.chip
   sound = sound-is host (sizes .sound)
 
   abbrev next : World
-  next = resetWorld (worldOf m b p s image registers) buffer
+  next = resetWorld (worldOf m b p marks s image registers) buffer
 
-  list : listIn n t (stepOf (worldOf m b p s image registers) Reset buffer .lent) ≡ encode b p writes
+  list : listIn n t (stepOf (worldOf m b p marks s image registers) Reset buffer .lent) ≡ encode b p writes
   list =
       ap (listIn n t) (list-is host (resetting host) buffer n t answer)
       ∙ ap₂ (λ (x y : ℕ). listIn x y (over (encode b p writes) buffer)) (sizes .n-is) (sizes .t-is)
@@ -69,30 +70,32 @@ module _ (m b p : ℕ) (s image registers : List ℕ) (chip-sound : Rattle.chip
   chip-after : next .chip ≡ chipOf m b p (resetImage m)
   unfolding newChip
   chip-after =
-      ap (λ (x : ListAnswer). fedBy x (stepOf (worldOf m b p s image registers) Reset buffer .lent) chip) (ap listOf e)
+      ap (λ (x : ListAnswer). fedBy x (stepOf (worldOf m b p marks s image registers) Reset buffer .lent) chip) (ap listOf e)
       ∙ ap (λ (l : List ℕ). feedOf chip l .chip) list
       ∙ ap (λ (f : Fed). f .chip) (feed-reset chip (Rattle.chip.specs.ChipLaws.sound-is chip chip-sound))
 
-  -- and so has the record's image
-  host-after : next .host ≡ recordOf (headerOf m b p) s (resetImage m)
+  -- and so has the record's image, and nothing is locked
+  host-after : next .host ≡ recordOf (headerOf m b p free) s (resetImage m)
   host-after = host-is host (resetting host) (length buffer) n t answer
 
   holds-again : Holds m b p s next
   holds-again = record {
+    marks = free;
     image = resetImage m;
     registers = resetImage m;
     is = ap₂ (λ (r : Record) (c : Chip). record { host = r; chip = c }) host-after chip-after;
     settings-fit = sound .settings;
     image-fit = reset-image m (sound .settings .member);
+    marks-fit = free-marks (headerOf m b p free) s (resetImage m) refl;
     registers-fit = reset-registers m (sound .settings .member);
     same = λ a l k. refl;
   }
 
 -- Whatever registers a sound chip of the record's member, bus and pins holds, and whatever image the record has of it, once the list of an
 -- accepted Reset was heard the invariant of histories holds again, with the settings that the record had.
-pub reset-recovers : (m b p : ℕ) (s image registers : List ℕ) → Rattle.chip.specs.Chip.soundOf (chipOf m b p registers) ≡ true →
-    (buffer : List ℕ) (n t : ℕ) → ResetAnswers (worldOf m b p s image registers) buffer n t →
-    Holds m b p s (resetWorld (worldOf m b p s image registers) buffer)
+pub reset-recovers : (m b p marks : ℕ) (s image registers : List ℕ) → Rattle.chip.specs.Chip.soundOf (chipOf m b p registers) ≡ true →
+    (buffer : List ℕ) (n t : ℕ) → ResetAnswers (worldOf m b p marks s image registers) buffer n t →
+    Holds m b p s (resetWorld (worldOf m b p marks s image registers) buffer)
 reset-recovers = holds-again
 
 -- ---- after a history
@@ -104,14 +107,14 @@ module _ (m b p : ℕ) (o : accepted (openOf m b p .answer) ≡ true) (events : 
   holds : Holds m b p asked (worldAfter m b p events)
   holds = history-holds m b p (opened m b p o) events
 
-  failed-is : failed m b p events registers ≡ worldOf m b p asked (holds .image) registers
+  failed-is : failed m b p events registers ≡ worldOf m b p (holds .marks) asked (holds .image) registers
   failed-is = ap (λ (w : World). record { host = w .host; chip = chipOf m b p registers }) (holds .is)
 
   pub failed-recovers : Rattle.chip.specs.Chip.soundOf (chipOf m b p registers) ≡ true → (buffer : List ℕ) (n t : ℕ) →
       ResetAnswers (failed m b p events registers) buffer n t → Holds m b p asked (resetWorld (failed m b p events registers) buffer)
   failed-recovers e buffer n t =
       subst (λ (w : World). ResetAnswers w buffer n t → Holds m b p asked (resetWorld w buffer)) (sym failed-is)
-      (reset-recovers m b p asked (holds .image) registers e buffer n t)
+      (reset-recovers m b p (holds .marks) asked (holds .image) registers e buffer n t)
 
   -- nine bytes of buffer are always enough: its list is one write of one byte
   pub reset-accepted : (buffer : List ℕ) → 9 ≤ length buffer → ResetAnswers (failed m b p events registers) buffer 1 3
@@ -137,35 +140,14 @@ part-heard m b p registers e heard =
     is-sound (chipOf m b p (applyAll m b p registers heard))
     (record { opened = before .opened; registers = all-registers m b p registers heard (before .registers) })
 
--- the record that a call leaves is the same, whatever its chip is,
-step-alone : (w : World) (c : Chip) (request : Request) (lent : List ℕ) →
-    stepOf (record { host = w .host; chip = c }) request lent .world .host ≡ stepOf w request lent .world .host
-step-alone w c (Set q) lent = refl
-step-alone w c Reset lent = refl
-step-alone w c PowerLost lent = refl
-step-alone w c Update lent = refl
-
--- and so is the one that a part leaves,
-event-alone : (w : World) (c : Chip) (e : Event) → eventStep (record { host = w .host; chip = c }) e .host ≡ eventStep w e .host
-event-alone w c (call x) = step-alone w c (x .request) (x .lent)
-event-alone w c (part room) = refl
-
--- so that the events may also stand behind the failure: the record after them is the one that `failed` has
-pub record-alone : (events : List Event) (w : World) (c : Chip) → run (record { host = w .host; chip = c }) events .host ≡ run w events .host
-record-alone [] w c = refl
-record-alone (e ∷ es) w c =
-    let other : World = eventStep (record { host = w .host; chip = c }) e in
-    ap (λ (r : Record). run (record { host = r; chip = other .chip }) es .host) (event-alone w c e)
-    ∙ record-alone es (eventStep w e) (other .chip)
-
--- the ledger goes on as if nothing had failed
-ledger-joins : (m : ℕ) (xs ys : List Event) (s : List ℕ) (w v : World) → entries m (entries m s (told w xs)) (told v ys) ≡ entries m s (told w (xs ++ ys))
-ledger-joins m xs ys s w v =
-    ap (entries m (entries m s (told w xs))) (told-calls ys v ∙ sym (told-calls ys (run w xs))) ∙ sym (ledger-append m s w xs ys)
-
--- and is that of all calls, before and behind the Reset
-pub recovered-ledger : (m b p : ℕ) (events : List Event) (w : World) (buffer : List ℕ) (behind : List Event) →
-    entries m (ledgerAfter m b p events) (told (resetWorld w buffer) behind)
+-- The events may also stand behind the failure: the record after them is the one that `failed` has (`record-alone` of WorldLaws). And the
+-- ledger goes on as if nothing had failed: it is that of all calls, before and behind the Reset.
+pub recovered-ledger : (m b p : ℕ) (events : List Event) (registers buffer : List ℕ) (behind : List Event) →
+    entries m (ledgerAfter m b p events) (told (resetWorld (failed m b p events registers) buffer) behind)
     ≡ ledgerAfter m b p (events ++ (call (record { request = Reset; lent = buffer }) ∷ behind))
-recovered-ledger m b p events w buffer behind =
-    ledger-joins m events (call (record { request = Reset; lent = buffer }) ∷ behind) (resetImage m) (start m b p) w
+recovered-ledger m b p events registers buffer behind =
+    let reset : Call = record { request = Reset; lent = buffer } in
+    let w : World = failed m b p events registers in
+    ap (λ (l : List ℕ). entries m l (told (resetWorld w buffer) behind)) (sym (enters-nothing m (ledgerAfter m b p events) (tell w reset) refl))
+    ∙ ap (entries m (ledgerAfter m b p events)) (told-alone (call reset ∷ behind) (worldAfter m b p events) (chipOf m b p registers))
+    ∙ sym (ledger-append m (resetImage m) (start m b p) events (call reset ∷ behind))

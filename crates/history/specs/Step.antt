@@ -2,18 +2,21 @@
 -- record, `host`, and its chip; `lent` is the bytes of a scene, or the buffer of a call that writes a list. Behind the calls stands a part,
 -- what a round of document 02, Q-3, does to one world.
 -- Assumes nothing.
+use mathlib.Core.Bool.{Bool}
 use mathlib.Core.List.{List}
 use Prim.Native.Nat.{ℕ, _+_, _*_, _≤_}
+use lib.Dec.{eqb}
 use lib.ListN.{length, take}
 use Rattle.map.specs.declared.refusals.Numbers.{Numbers}
-use Rattle.map.specs.Refusals.{numbersOf}
+use Rattle.map.specs.declared.refusals.Refusal.the-variants.{Locked}
+use Rattle.map.specs.Refusals.{refusalNumber, numbersOf}
 use Rattle.burst.specs.Burst.{Burst, encode}
 use Rattle.plan.specs.Update.{storeAll}
 use Rattle.plan.specs.Portion.{portion}
 use Rattle.calls.specs.declared.Request.{Request}
-use Rattle.calls.specs.declared.Request.the-variants.{Set, Reset, PowerLost, Update}
+use Rattle.calls.specs.declared.Request.the-variants.{Set, Reset, PowerLost, Update, Lock}
 use Rattle.host.specs.declared.Changed.{Changed}
-use Rattle.host.specs.Record.{recordOf, settingOf, powerLostOf}
+use Rattle.host.specs.Record.{recordOf, settingOf, powerLostOf, lockOf}
 use Rattle.update.specs.declared.ListAnswer.{ListAnswer}
 use Rattle.update.specs.declared.ListAnswer.the-variants.{Listed, Short, Refused}
 use Rattle.update.specs.declared.Sent.{Sent}
@@ -27,12 +30,16 @@ use Rattle.history.specs.declared.Stepped.{Stepped}
 
 -- ---- Answers
 
--- "a definition states this paper's number and values for each case of the enum": a setting and Power lost answer those of their call
--- (`settingNumbers` of host), a call that writes a list what the list's answer has, and Update how many image bytes it stored as well
+-- "a definition states this paper's number and values for each case of the enum": a setting, Power lost and Lock answer those of their
+-- call (`settingNumbers` of host), a call that writes a list what the list's answer has, and Update how many image bytes it stored as well
 abbrev pub callNumbers : answers.CallAnswer → Numbers
 callNumbers (answers.the-variants.Setting numbers) = numbers
 callNumbers (answers.the-variants.List answer) = numbersOf (listNumbers answer)
 callNumbers (answers.the-variants.Update answer stored) = numbersOf (updateNumbers answer stored)
+
+-- Q-5, "each 17": whether an answer is one
+unfoldable pub answersLocked : answers.CallAnswer → Bool
+answersLocked answer = eqb (callNumbers answer .number) (refusalNumber Locked)
 
 -- ---- What the chip gets
 
@@ -98,6 +105,7 @@ stepOf w (Set q) lent = changeStep (settingOf (w .host) q lent) (w .chip) lent
 stepOf w Reset lent = sendStep w (resetting (w .host)) lent
 stepOf w PowerLost lent = changeStep (powerLostOf (w .host)) (Rattle.chip.specs.Chip.powerLostOf (w .chip)) lent
 stepOf w Update lent = updateStep (updateOf (w .host) (length lent)) (updateBuffer (w .host) lent) (w .chip)
+stepOf w Lock lent = changeStep (lockOf (w .host)) (w .chip) lent
 
 -- ---- A part: document 02, Q-3
 

@@ -1,7 +1,7 @@
 -- Demand 3 is met: `whole-lists`. And an Update at once after an accepted one has nothing to send: `second-update`.
 -- Assumes nothing.
 use mathlib.Core.Path.{_≡_, refl, sym, ap, ap₂, _∙_, subst}
-use mathlib.Core.Bool.{true, cond}
+use mathlib.Core.Bool.{Bool, true, false, cond}
 use mathlib.Core.List.{List, [], _∷_, map}
 use Prim.Native.Nat.{ℕ, _-_, _*_, _≤_}
 use native.Mathlib.Omega.{arith}
@@ -23,7 +23,9 @@ use Rattle.plan.specs.PortionLaws.{portion-begins}
 use Rattle.calls.specs.declared.Request.the-variants.{Update}
 use Rattle.host.specs.declared.Header.{Header}
 use Rattle.host.specs.declared.Record.{Record}
-use Rattle.host.specs.Record.{headerOf, soundOf, mayWrite, openOf}
+use Rattle.host.specs.Record.{headerOf, soundOf, lockKeeps, mayWrite, openOf}
+use Rattle.host.specs.RecordLaws.{may-writable, writable-may, not-locked}
+use Rattle.host.specs.LockLaws.{kept-same}
 use Rattle.update.specs.declared.ListAnswer.{ListAnswer}
 use Rattle.update.specs.declared.ListAnswer.the-variants.{Listed, Short, Refused}
 use Rattle.update.specs.Update.{over, sendAnswer, sendOf, writesOf, updating, updateOf}
@@ -37,9 +39,10 @@ use Rattle.chip.specs.FeedLaws.{hearAll, Taken, feed-taken, feed-writes}
 use Rattle.history.specs.declared.World.{World}
 use Rattle.history.specs.declared.CallAnswer as answers
 use Rattle.history.specs.Ledger.{entries, wantsOn}
+use Rattle.history.specs.LedgerLaws.{enters-nothing}
 use Rattle.history.specs.Step.{listIn, fedBy, stepOf, partOf}
-use Rattle.history.specs.History.{Event, call, start, run, worldAfter, told, SameWritable, AllAllowed, Rival, UpdateAnswers, updateList, Updates, Owed, Demand3, WholeLists}
-use Rattle.history.specs.MachineLaws.{may-writable, writable-may, machine, hear-all-is}
+use Rattle.history.specs.History.{Event, call, start, run, worldAfter, tell, told, SameWritable, AllAllowed, Rival, UpdateAnswers, updateList, Updates, Owed, Demand3, WholeLists}
+use Rattle.history.specs.MachineLaws.{machine, hear-all-is, hear-all-outside}
 use Rattle.history.specs.WorldLaws.{front, worldOf, Holds, PartSendable, start-holds, is-so, ready, update-fed, begins-sendable, run-holds, run-append, ledger-append}
 use Rattle.history.specs.RivalLaws.{all-writes, all-good, all-own}
 
@@ -59,10 +62,10 @@ storedOf (answers.the-variants.Update answer stored) = stored
 
 module _ (m b p : ℕ) (o : opens m b p ≡ true) (s : List ℕ) (w : World) (h : Holds m b p s w) where
   abbrev world : World
-  world = worldOf m b p s (h .image) (h .registers)
+  world = worldOf m b p (h .marks) s (h .image) (h .registers)
 
   abbrev header : Header
-  header = headerOf m b p
+  header = headerOf m b p (h .marks)
 
   abbrev host : Record
   host = world .host
@@ -83,12 +86,19 @@ module _ (m b p : ℕ) (o : opens m b p ≡ true) (s : List ℕ) (w : World) (h 
   fed : feedOf (world .chip) (encode b p writes) ≡ record { answer = Accepted; chip = chipOf m b p after }
   fed = update-fed m b p o s w h
 
-  -- settings that are on are in the chip
+  -- settings that are on are in the chip: where they may be sent by the update, and at a locked address already before it
   values : wantsOn s ≡ true → SameWritable m after s
   unfolding writesOf
-  values e a k =
-      ap (λ (rs : List ℕ). valueAt rs a) (hear-all-is header (h .registers) writes)
-      ∙ best .reached e a (writable-below m a k) (writable-may header a k)
+  values e a k = go (lockKeeps header a) refl
+    where
+      go : (c : Bool) → lockKeeps header a ≡ c → valueAt after a ≡ valueAt s a
+      go false q =
+          ap (λ (rs : List ℕ). valueAt rs a) (hear-all-is header (h .registers) writes)
+          ∙ best .reached e a (writable-below m a k) (writable-may header a k q)
+      go true q =
+          hear-all-outside header (h .registers) writes (names-writable host sound) a (not-locked header a q)
+          ∙ sym (h .same a (writable-below m a k) k)
+          ∙ sym (kept-same header s (h .image) (h .marks-fit) a q)
 
   -- and so they are in a chip with nothing pending
   finished-here : writes ≡ [] → wantsOn s ≡ true → SameWritable m (h .registers) s
@@ -233,7 +243,9 @@ module _ (m b p : ℕ) (o : opens m b p ≡ true) (s : List ℕ) (w : World) (h 
     world-last = ap (run w) (u .events-are) ∙ run-append before update w
 
     ledger-stays : ledger-now ≡ ledger-earlier
-    ledger-stays = ap (λ (l : List Event). entries m s (told w l)) (u .events-are) ∙ ledger-append m s w before update
+    ledger-stays =
+        ap (λ (l : List Event). entries m s (told w l)) (u .events-are) ∙ ledger-append m s w before update
+        ∙ enters-nothing m ledger-earlier (tell earlier (record { request = Update; lent = buffer })) refl
 
     last-update : Owed m b p ledger-now earlier (run w events) (updateList earlier buffer n t) n t
     last-update =

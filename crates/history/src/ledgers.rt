@@ -1,5 +1,5 @@
-// The ledger as a value: a setting is put to a record that has the ledger's bytes for its settings, on bus 0 with pins 0, and what the
-// record then has is the ledger. So the ledger takes a setting by its own bytes alone, and never hears what a panel answered.
+// The ledger as a value: a setting is put to a record that has the ledger's bytes for its settings, on bus 0 with pins 0 and not locked, and
+// what the record then has is the ledger. So the ledger takes a setting by its own bytes alone.
 ghost use mathlib.Core.Path.{_≡_};
 ghost use mathlib.Core.Bool.{cond};
 ghost use lib.Dec.{ltb};
@@ -38,6 +38,7 @@ fn set(member: u8, bytes: [u8; 908], setting: Setting, lent: &[u8]) -> [u8; 908]
         member: member,
         bus: 0,
         pins: 0,
+        marks: host::FREE,
     };
     let asked = Record {
         header: header,
@@ -59,5 +60,6 @@ pub(crate) fn entered(member: u8, bytes: [u8; 908], request: Request, lent: &[u8
         Request::Reset => bytes,
         Request::PowerLost => bytes,
         Request::Update => bytes,
+        Request::Lock => bytes,
     }
 }

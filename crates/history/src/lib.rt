@@ -2,7 +2,7 @@
 //
 // A world is a host's record and the chip that it stands for. A step makes one call on the record, feeds the list that it answers to
 // the chip at once, and takes the chip's power where the record is told that it was lost. The ledger is what was asked for: it is
-// told the calls and never an answer. specs/History.antt has the claim about whole lists of calls, specs/Theorem.antt its
+// told the calls and, of their answers, each 17 of a locked register and no other. specs/History.antt has the claim about whole lists of calls, specs/Theorem.antt its
 // proof: after an accepted update that wants the chip on, the chip holds what the ledger says, and no list does it in fewer bytes.
 mod feeding;
 mod ledgers;
@@ -10,13 +10,14 @@ mod ledgers;
 ghost use mathlib.Core.Path.{_≡_};
 ghost use mathlib.Core.List.{List};
 ghost use Prim.Native.Nat.{ℕ};
-ghost use Rattle.history.specs.Step.{callNumbers, leaving, changeStep, stepOf, clearStep};
+ghost use Rattle.history.specs.Step.{callNumbers, answersLocked, leaving, changeStep, stepOf, clearStep};
 ghost use Rattle.history.specs.Ledger.{toldOf, openedLedger, enteredOf};
 use calls::Request;
 use chip::Chip;
 use host::Changed;
 use host::Record;
 use map::Numbers;
+use map::Refusal;
 use update::ListAnswer;
 
 // A host's record and its chip.
@@ -25,7 +26,7 @@ pub struct World {
     pub chip: Chip,
 }
 
-// What a call answers: a setting or Power lost a number and the values that come with it, the others a list; an update also how many bytes
+// What a call answers: a setting, Power lost or Lock a number and the values that come with it, the others a list; an update also how many bytes
 // of the chip image it stored.
 pub enum CallAnswer {
     Setting(Numbers),
@@ -56,6 +57,14 @@ pub fn call_numbers(answer: CallAnswer) -> Numbers
     }
 }
 
+// Whether an answer is that of a register that the record's lock keeps.
+pub fn answers_locked(answer: CallAnswer) -> bool
+    ensures { λ r. ⌜ r ≡ answersLocked answer ⌝ }
+{
+    let numbers = call_numbers(answer);
+    numbers.number == map::refusal_number(Refusal::Locked) as usize
+}
+
 // One call on a world. The bytes of a Scene and the buffer of a Reset or an Update are lent.
 pub fn step(world: World, request: Request, lent: &mut [u8]) -> Stepped
     ensures { λ r. ⌜ leaving r (now (lent .exit)) ≡ stepOf world request (now (lent .entry)) ⌝ }
@@ -77,6 +86,7 @@ pub fn step(world: World, request: Request, lent: &mut [u8]) -> Stepped
             let updated = update::update(host, lent);
             feeding::updated(updated, chip, lent)
         }
+        Request::Lock => changed(host::lock(host), chip),
     }
 }
 
@@ -113,10 +123,13 @@ pub fn opened_ledger(member: usize) -> Ledger
     ledgers::opened(member)
 }
 
-// The ledger that is told of one more call, whatever that call was answered.
-pub fn enter(ledger: Ledger, request: Request, lent: &[u8]) -> Ledger
-    ensures { λ r. ⌜ r ≡ enteredOf ledger (toldOf request (now (lent .entry))) ⌝ }
+// The ledger that is told of one more call, and of its answer whether it was that of a locked register.
+pub fn enter(ledger: Ledger, request: Request, lent: &[u8], locked: bool) -> Ledger
+    ensures { λ r. ⌜ r ≡ enteredOf ledger (toldOf request (now (lent .entry)) locked) ⌝ }
 {
+    if locked {
+        return ledger;
+    }
     let member = ledger.member;
     let bytes = ledger.bytes;
     let entered = ledgers::entered(member, bytes, request, lent);

@@ -5,7 +5,7 @@ use Prim.Native.Nat.{ℕ}
 use Rattle.map.specs.Refusals.{numbersIn}
 use Rattle.text.specs.Text.{addressText, decimalText, eachText, bytesText}
 use Rattle.replies.specs.declared.Reply.{Reply}
-use Rattle.replies.specs.declared.Reply.the-variants.{Bad, Numbers, Lent, Bytes, Same, Differs}
+use Rattle.replies.specs.declared.Reply.the-variants.{Bad, Numbers, Lent, Bytes, Same, Differs, Free, Locked}
 
 -- a value of an answer stands behind a space
 unfoldable pub valueText : ℕ → List ℕ
@@ -28,6 +28,14 @@ sameWord = 0x73 ∷ 0x61 ∷ 0x6D ∷ 0x65 ∷ []
 abbrev pub differsWord : List ℕ
 differsWord = 0x64 ∷ 0x69 ∷ 0x66 ∷ 0x66 ∷ 0x65 ∷ 0x72 ∷ 0x73 ∷ 0x20 ∷ []
 
+-- `free`
+abbrev pub freeWord : List ℕ
+freeWord = 0x66 ∷ 0x72 ∷ 0x65 ∷ 0x65 ∷ []
+
+-- `locked`
+abbrev pub lockedWord : List ℕ
+lockedWord = 0x6C ∷ 0x6F ∷ 0x63 ∷ 0x6B ∷ 0x65 ∷ 0x64 ∷ []
+
 -- the table's last column
 unfoldable pub replyText : Reply → List ℕ → List ℕ
 -- `?`
@@ -43,6 +51,9 @@ replyText Bytes b = bytesText b
 replyText Same b = sameWord
 -- "`differs A` with the lowest differing address in three hex digits"
 replyText (Differs a) b = differsWord ++ addressText a
+-- "the marks of the record": `free`, `locked`
+replyText Free b = freeWord
+replyText Locked b = lockedWord
 
 -- "writes one line for each call"
 unfoldable pub replyLine : Reply → List ℕ → List ℕ

@@ -27,6 +27,10 @@ pub enum Reply {
     Same,
     // `differs A`
     Differs(usize),
+    // `free`
+    Free,
+    // `locked`
+    Locked,
 }
 
 // ` V`, where there is one
@@ -84,6 +88,8 @@ fn put_reply(text: &mut [u8], at: usize, reply: Reply, bytes: &[u8]) -> usize
         Reply::Bytes => put_bytes(text, at, bytes),
         Reply::Same => put_text(text, at, b"same"),
         Reply::Differs(address) => put_differs(text, at, address),
+        Reply::Free => put_text(text, at, b"free"),
+        Reply::Locked => put_text(text, at, b"locked"),
     }
 }
 

@@ -2,16 +2,16 @@
 -- Assumes nothing.
 use mathlib.Core.Path.{_≡_, refl, sym, subst, _∙_}
 use mathlib.Core.Bool.{Bool, true, false, cond, _&&_}
-use mathlib.Core.List.{List, [], _∷_}
+use mathlib.Core.List.{List, [], _∷_, _++_}
 use Prim.Native.Nat.{ℕ, zero, suc, min, _+_, _≤_, _<_}
 use native.Mathlib.Omega.{arith}
 use borrow.Author.Tests.{leb-true, ltb-true}
 use lib.Dec.{ltb, leb, eqb}
-use lib.ListN.{length, getD}
+use lib.ListN.{length, getD, take, drop}
 use Rattle.calls.specs.declared.Request.{Request}
-use Rattle.calls.specs.declared.Request.the-variants.{Set, Reset, PowerLost, Update}
+use Rattle.calls.specs.declared.Request.the-variants.{Set, Reset, PowerLost, Update, Lock}
 use Rattle.script.specs.declared.command.Command.{Command}
-use Rattle.script.specs.declared.command.Command.the-variants.{Bad, Open, Call, Clear, Feed, Faults, Show, Poke, Header, Check, Pending}
+use Rattle.script.specs.declared.command.Command.the-variants.{Bad, Open, Call, Clear, Feed, Faults, Show, Poke, Header, Check, Pending, Marks}
 use Rattle.script.specs.declared.command.Line.{Line}
 use Rattle.script.specs.declared.command.Line.the-variants.{Run, Aside, Panel, Round}
 use Rattle.script.specs.declared.command.Aside as asides
@@ -19,6 +19,8 @@ use Rattle.script.specs.declared.command.Aside.the-variants.{Silent, Ech
 use Rattle.script.specs.declared.command.Lent.{Lent}
 use Rattle.script.specs.declared.command.Lent.the-variants.{Nothing, Word, Room}
 use Rattle.script.specs.declared.command.Part.the-variants.{Chip}
+use Rattle.script.specs.declared.command.Entry.{Entry}
+use Rattle.script.specs.declared.command.Entry.the-variants.{Member, Bus, Pins, Lock as LockMark}
 use Rattle.script.specs.declared.numbers.Number.{Number}
 use Rattle.script.specs.declared.numbers.Number.the-variants.{Value, Bad as NoNumber}
 use Rattle.script.specs.declared.lines.Three.the-variants.{Bad as NotAll}
@@ -26,7 +28,7 @@ use Rattle.script.specs.Words.{codes, wordAt, wordCount, sameText}
 use Rattle.script.specs.Numbers.{allDigits, valueFrom, isNumeral, numeralOf}
 use Rattle.script.specs.Bytes.{isBytes}
 use Rattle.script.specs.Table.{placeOf}
-use Rattle.script.specs.Lines.{bytes, part, entry, onOff, numberKinds, kindAmong, parts, entries, switches}
+use Rattle.script.specs.Lines.{bytes, part, entry, onOff, numberKinds, kindAmong, parts, entries, headerLine, switches}
 use Rattle.script.specs.Lines.{Row, lines, firstWords, noLine, lineAt, namedOf, numeralBy, argumentOf, valueAt, threeOf, argumentsOf, callAt, calledBy, judged, isSilent, tableLine, lineOf}
 
 -- ---- what a command asks for is there: the line of a byte string has at most 8,192 bytes, a buffer at most 8,192, a byte that is put
@@ -45,6 +47,7 @@ BufferFits (Set q) (Room n) = 1 ≤ 0
 BufferFits Reset (Room n) = 0 ≤ 0
 BufferFits PowerLost (Room n) = 1 ≤ 0
 BufferFits Update (Room n) = 0 ≤ 0
+BufferFits Lock (Room n) = 1 ≤ 0
 
 unfoldable pub AsideFits : List ℕ → asides.Aside → Type 0
 AsideFits l Silent = 0 ≤ 0
@@ -66,6 +69,7 @@ CommandFits l (Poke p a v) = (a < 908) × (v < 256)
 CommandFits l (Header e v) = v < 256
 CommandFits l Check = 0 ≤ 0
 CommandFits l Pending = 0 ≤ 0
+CommandFits l Marks = 0 ≤ 0
 
 unfoldable pub Fits : List ℕ → Line → Type 0
 Fits l (Run c) = CommandFits l c
@@ -92,9 +96,26 @@ EachFits : List ℕ → List Row → ℕ → ℕ → ℕ → Type 0
 EachFits l [] a b c = 0 ≤ 0
 EachFits l (r ∷ rs) a b c = Fits l (callWithin r a b c) × EachFits l rs a b c
 
+header-fits : (l : List ℕ) (e : Entry) (v : ℕ) → v < 256 → Fits l (headerLine e v)
+unfolding headerLine Fits CommandFits
+header-fits l Member v h = h
+header-fits l Bus v h = h
+header-fits l Pins v h = h
+header-fits l LockMark v h = go (leb v 1)
+  where
+    go : (t : Bool) → Fits l (cond t (Run (Header LockMark v)) (Run Bad))
+    go true = h
+    go false = omega arith
+
+each-joined : (l : List ℕ) (rs ss : List Row) (a b c : ℕ) → EachFits l rs a b c → EachFits l ss a b c → EachFits l (rs ++ ss) a b c
+unfolding EachFits
+each-joined l [] ss a b c h t = t
+each-joined l (r ∷ rs) ss a b c h t = (h .0, each-joined l rs ss a b c (h .1) t)
+
+-- the rows before `header`, it, and those behind it
 each-line-fits : (l : List ℕ) (a b c : ℕ) → length l ≤ 8192 → EachFits l lines a b c
 unfolding EachFits lines callWithin Fits CommandFits AsideFits LentFits BufferFits mostAt mostOf parts entries switches numberKinds kindAmong
-each-line-fits l a b c h = (omega arith, (omega arith, (omega arith, (omega arith, (omega arith, (omega arith, (omega arith, (omega arith, omega arith))))))))
+each-line-fits l a b c h = each-joined l (take 16 lines) (drop 16 lines) a b c (omega arith) (header-fits l _ _ (omega arith), omega arith)
 
 row-fits : (l : List ℕ) (rs : List Row) (k a b c : ℕ) → EachFits l rs a b c → Fits l (callWithin (getD rs k noLine) a b c)
 unfolding EachFits callWithin Fits CommandFits noLine

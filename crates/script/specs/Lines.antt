@@ -8,8 +8,8 @@ use Prim.Native.String.{String}
 use lib.Dec.{eqb, ltb, leb}
 use lib.ListN.{length, getD, take}
 use Rattle.calls.specs.declared.Setting.the-variants.{Register, Lamp, Group, Switch, Scene}
-use Rattle.calls.specs.declared.Request.the-variants.{Set, Reset, PowerLost, Update}
-use Rattle.script.specs.declared.command.Command.the-variants.{Bad, Open, Call, Clear, Feed, Faults, Show, Poke, Header, Check, Pending}
+use Rattle.calls.specs.declared.Request.the-variants.{Set, Reset, PowerLost, Update, Lock}
+use Rattle.script.specs.declared.command.Command.the-variants.{Bad, Open, Call, Clear, Feed, Faults, Show, Poke, Header, Check, Pending, Marks}
 use Rattle.script.specs.declared.command.Line.{Line}
 use Rattle.script.specs.declared.command.Line.the-variants.{Run, Aside, Panel, Round}
 use Rattle.script.specs.declared.command.Aside.the-variants.{Silent, Echo, Lamps, FaultMap, Diff, List as LastList}
@@ -17,7 +17,7 @@ use Rattle.script.specs.declared.command.Lent.the-variants.{Nothing, Wor
 use Rattle.script.specs.declared.command.Part.{Part}
 use Rattle.script.specs.declared.command.Part.the-variants.{Settings, Image, Chip}
 use Rattle.script.specs.declared.command.Entry.{Entry}
-use Rattle.script.specs.declared.command.Entry.the-variants.{Member, Bus, Pins}
+use Rattle.script.specs.declared.command.Entry.the-variants.{Member, Bus, Pins, Lock as LockMark}
 use Rattle.script.specs.declared.numbers.Number.{Number}
 use Rattle.script.specs.declared.numbers.Number.the-variants.{Value, Bad as NoNumber}
 use Rattle.script.specs.declared.lines.NumberKind.{NumberKind}
@@ -70,7 +70,7 @@ bytes = code "s"
 abbrev pub part : ℕ
 part = code "p"
 
--- "W is `member`, `bus` or `pins`"
+-- "W is `member`, `bus` or `pins`", and since Q-5 `lock`
 abbrev pub entry : ℕ
 entry = code "e"
 
@@ -109,10 +109,17 @@ partAt n = cond (eqb n 0) Settings (cond (eqb n 1) Image Chip)
 
 -- the words of W, and what each of them names
 unfoldable pub entries : List (List ℕ)
-entries = codes "member" ∷ codes "bus" ∷ codes "pins" ∷ []
+entries = codes "member" ∷ codes "bus" ∷ codes "pins" ∷ codes "lock" ∷ []
 
 unfoldable pub entryAt : ℕ → Entry
-entryAt n = cond (eqb n 0) Member (cond (eqb n 1) Bus Pins)
+entryAt n = cond (eqb n 0) Member (cond (eqb n 1) Bus (cond (eqb n 2) Pins LockMark))
+
+-- "`header lock V` puts V (0 or 1, else `?`) into the record only"; of the other entries V is what its kind allows
+unfoldable pub headerLine : Entry → ℕ → Line
+headerLine Member v = Run (Header Member v)
+headerLine Bus v = Run (Header Bus v)
+headerLine Pins v = Run (Header Pins v)
+headerLine LockMark v = cond (leb v 1) (Run (Header LockMark v)) (Run Bad)
 
 -- the words `on` and `off`
 unfoldable pub switches : List (List ℕ)
@@ -148,7 +155,7 @@ lines =
     ∷ row "image" [] (λ x y z. Run (Show Image))
     ∷ row "chip" [] (λ x y z. Run (Show Chip))
     ∷ row "poke" (part ∷ address ∷ byte ∷ []) (λ w a v. Run (Poke (partAt w) a v))
-    ∷ row "header" (entry ∷ small ∷ []) (λ w v z. Run (Header (entryAt w) v))
+    ∷ row "header" (entry ∷ small ∷ []) (λ w v z. headerLine (entryAt w) v)
     ∷ row "check" [] (λ x y z. Run Check)
     ∷ row "lamps" (part ∷ []) (λ w y z. Aside (Lamps (partAt w)))
     ∷ row "diff" [] (λ x y z. Aside Diff)
@@ -158,6 +165,8 @@ lines =
     ∷ row "pending" [] (λ x y z. Run Pending)
     ∷ row "panel" (place ∷ []) (λ k y z. Panel k)
     ∷ row "round" (marks ∷ decimal ∷ room ∷ []) (λ p b n. Round p b n)
+    ∷ row "lock" [] (λ x y z. Run (Call Lock Nothing))
+    ∷ row "marks" [] (λ x y z. Run Marks)
     ∷ []
 
 -- the first word of each line

@@ -22,6 +22,8 @@ pub enum Entry {
     Member,
     Bus,
     Pins,
+    // the lock's mark, which no chip has
+    Lock,
 }
 
 // A line that makes no call and changes no record and no chip.
@@ -57,6 +59,8 @@ pub enum Command {
     Check,
     // what an update would send now
     Pending,
+    // what the record is marked as
+    Marks,
 }
 
 // What a line of a script is: a command and an aside are about the current panel. A line that is none of these is a bad command.

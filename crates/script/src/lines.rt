@@ -3,7 +3,8 @@
 ghost use mathlib.Core.Path.{_≡_};
 ghost use Prim.Native.Nat.{_+_};
 ghost use Rattle.script.specs.Table.{columnOf};
-ghost use Rattle.script.specs.Lines.{numberKinds, kindAmong, numeralBy, firstWords, otherKinds, namedOf, argumentOf, valueAt, threeOf, argumentsOf, partAt, entryAt, callAt, withoutCr, isSilent, lineOf};
+ghost use Rattle.script.specs.Lines.{numberKinds, kindAmong, numeralBy, firstWords, otherKinds, namedOf, argumentOf, valueAt, threeOf, argumentsOf};
+ghost use Rattle.script.specs.Lines.{partAt, entryAt, headerLine, callAt, withoutCr, isSilent, lineOf};
 use crate::bytes::is_bytes;
 use crate::command::Aside;
 use crate::command::Command;
@@ -95,12 +96,12 @@ const NUMBERS: [NumberKind; NUMBER_KINDS] = [
 const BYTES: u8 = b's';
 // `settings`, `image` or `chip`
 const PART: u8 = b'p';
-// `member`, `bus` or `pins`
+// `member`, `bus`, `pins` or `lock`
 const ENTRY: u8 = b'e';
 // `on` or `off`
 const ON_OFF: u8 = b'o';
 
-const ROWS: usize = 26;
+const ROWS: usize = 28;
 
 // The first word of each line, and the kinds of its other words. The settings that are lent nothing stand first: row n is arm n of `call`,
 // and row 4 + n arm n of `other`.
@@ -130,7 +131,9 @@ const LINES: [u8; 16 * ROWS] = *b"\
     list            \
     pending         \
     panel k         \
-    round mdr       ";
+    round mdr       \
+    lock            \
+    marks           ";
 
 // What a line is, by its row and what its other words say.
 fn call(row: usize, first: usize, second: usize, third: usize) -> Line
@@ -188,7 +191,7 @@ fn other(place: usize, first: usize, second: usize, third: usize) -> Line
         9 => Line::Run(Command::Show(Part::Image)),
         10 => Line::Run(Command::Show(Part::Chip)),
         11 => Line::Run(Command::Poke(part(first), second, third)),
-        12 => Line::Run(Command::Header(entry(first), second)),
+        12 => header(entry(first), second),
         13 => Line::Run(Command::Check),
         14 => Line::Aside(Aside::Lamps(part(first))),
         15 => Line::Aside(Aside::Diff),
@@ -198,6 +201,8 @@ fn other(place: usize, first: usize, second: usize, third: usize) -> Line
         19 => Line::Run(Command::Pending),
         20 => Line::Panel(first),
         21 => Line::Round(first, second, third),
+        22 => Line::Run(Command::Call(Request::Lock, Lent::Nothing)),
+        23 => Line::Run(Command::Marks),
         _ => Line::Run(Command::Bad),
     }
 }
@@ -218,7 +223,24 @@ fn entry(place: usize) -> Entry
     match place {
         0 => Entry::Member,
         1 => Entry::Bus,
-        _ => Entry::Pins,
+        2 => Entry::Pins,
+        _ => Entry::Lock,
+    }
+}
+
+// What `header W V` is: a lock's mark above 1 makes it bad.
+fn header(entry: Entry, value: usize) -> Line
+    ensures { λ r. ⌜ r ≡ headerLine entry value ⌝ }
+{
+    match entry {
+        Entry::Member => Line::Run(Command::Header(entry, value)),
+        Entry::Bus => Line::Run(Command::Header(entry, value)),
+        Entry::Pins => Line::Run(Command::Header(entry, value)),
+        Entry::Lock => if value <= 1 {
+            Line::Run(Command::Header(entry, value))
+        } else {
+            Line::Run(Command::Bad)
+        }
     }
 }
 
@@ -273,7 +295,10 @@ fn argument(kind: u8, word: &[u8]) -> Number
             Number::Bad
         }
         PART => named(word, b"settings        image           chip            "),
-        ENTRY => named(word, b"member          bus             pins            "),
+        ENTRY => named(
+            word,
+            b"member          bus             pins            lock            ",
+        ),
         ON_OFF => named(word, b"on              off             "),
         _ => number(kind, word),
     }

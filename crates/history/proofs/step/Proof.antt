@@ -7,6 +7,7 @@ use Rattle.history.proofs.FedLists.{within, update-within, sent-is, upd
 use borrow.Author.Needs.{needs}
 use Rattle.history.proofs.step.Statement.{statement}
 use Rattle.history.proofs.step.Tie as tie
+use Rattle.host.proofs.power_lost.Reads as power-lost-reads′
 
 enum-known-request : tie.Need-enum-known-request
 enum-known-request c = search needs
@@ -47,6 +48,15 @@ update-requires c κs = search needs
 updated-requires : tie.Need-updated-requires
 updated-requires c κs = update-within _ _ _ _ (c .before .before .before .update .ensures .0) (c .before .before .before .update .kept .1 .0)
 
+enum-told-4 : tie.Need-enum-told-4
+enum-told-4 c = search needs
+
+lock-requires : tie.Need-lock-requires
+lock-requires c κs = search needs
+
+changed-requires-3 : tie.Need-changed-requires-3
+changed-requires-3 c κs = search needs
+
 same-length : tie.Need-same-length
 same-length c = search needs
 
@@ -76,6 +86,9 @@ returns-4 c =
     step-is _ _ _ _ _ (called .before .before .enum-told3 .given .1)
     (update-is _ _ _ _ _ (c .updated .ensures) (called .update .ensures .0) (called .update .ensures .1))
 
+returns-5 : tie.Need-returns-5
+returns-5 c = step-is _ _ _ _ _ (c .before .before .enum-told4 .given .1) (change-is _ _ _ _ _ _ (c .changed3 .ensures) (c .before .lock .ensures) refl)
+
 pub step-spec : {M : Type 1} → statement M
 step-spec =
     tie.close
@@ -93,10 +106,14 @@ step-spec =
     enum-told-3
     update-requires
     updated-requires
+    enum-told-4
+    lock-requires
+    changed-requires-3
     same-length
     returns
     same-length-2
     returns-2
     returns-3
     same-length-3
-    returns-4)
+    returns-4
+    returns-5)

@@ -48,6 +48,24 @@ enum-known-reply-3 c = search needs
 put-differs-requires : tie.Need-put-differs-requires
 put-differs-requires c κs = search needs
 
+enum-told-4 : tie.Need-enum-told-4
+enum-told-4 c = search needs
+
+slice-aggregate-put-text-2 : tie.Need-slice-aggregate-put-text-2
+slice-aggregate-put-text-2 c = search needs
+
+put-text-requires-2 : tie.Need-put-text-requires-2
+put-text-requires-2 c κs = search needs
+
+enum-told-5 : tie.Need-enum-told-5
+enum-told-5 c = search needs
+
+slice-aggregate-put-text-3 : tie.Need-slice-aggregate-put-text-3
+slice-aggregate-put-text-3 c = search needs
+
+put-text-requires-3 : tie.Need-put-text-requires-3
+put-text-requires-3 c κs = search needs
+
 same-length : tie.Need-same-length
 same-length c = search needs
 
@@ -93,6 +111,20 @@ returns-6 : tie.Need-returns-6
 unfolding replyText
 returns-6 c = rw (c .before .before .before .before .before .reply3 .given .1) (c .before .before .put-differs .ensures)
 
+same-length-7 : tie.Need-same-length-7
+same-length-7 c = search needs
+
+returns-7 : tie.Need-returns-7
+unfolding replyText
+returns-7 c = rw (c .before .before .before .before .before .enum-told4 .given .1) (c .before .before .put-text2 .ensures)
+
+same-length-8 : tie.Need-same-length-8
+same-length-8 c = search needs
+
+returns-8 : tie.Need-returns-8
+unfolding replyText
+returns-8 c = rw (c .before .before .before .before .before .enum-told5 .given .1) (c .before .before .put-text3 .ensures)
+
 pub put-reply-spec : {M : Type 1} → statement M
 put-reply-spec =
     tie.close
@@ -111,6 +143,12 @@ put-reply-spec =
     put-text-requires
     enum-known-reply-3
     put-differs-requires
+    enum-told-4
+    slice-aggregate-put-text-2
+    put-text-requires-2
+    enum-told-5
+    slice-aggregate-put-text-3
+    put-text-requires-3
     same-length
     returns
     same-length-2
@@ -122,4 +160,8 @@ put-reply-spec =
     same-length-5
     returns-5
     same-length-6
-    returns-6)
+    returns-6
+    same-length-7
+    returns-7
+    same-length-8
+    returns-8)

@@ -21,6 +21,9 @@ enum-told-2 c = search needs
 enum-told-3 : tie.Need-enum-told-3
 enum-told-3 c = search needs
 
+enum-told-4 : tie.Need-enum-told-4
+enum-told-4 c = search needs
+
 returns : tie.Need-returns
 returns c = enters _ _ _ _ _ (c .before .before .request .given .1) _ (c .set .ensures)
 
@@ -33,6 +36,9 @@ returns-3 c = enters-nothing _ _ _ _ _ (c .enum-told2 .given .1) refl
 returns-4 : tie.Need-returns-4
 returns-4 c = enters-nothing _ _ _ _ _ (c .enum-told3 .given .1) refl
 
+returns-5 : tie.Need-returns-5
+returns-5 c = enters-nothing _ _ _ _ _ (c .enum-told4 .given .1) refl
+
 pub entered-spec : {M : Type 1} → statement M
 entered-spec =
     tie.close
@@ -42,7 +48,9 @@ entered-spec =
     enum-told
     enum-told-2
     enum-told-3
+    enum-told-4
     returns
     returns-2
     returns-3
-    returns-4)
+    returns-4
+    returns-5)

@@ -15,7 +15,13 @@ returns-2 c = simp (c .match .keys2)
 
 returns-3 : tie.Need-returns-3
 unfolding entryAt
-returns-3 c = simp (ne-eqb _ 0 (c .match .rest .0 .1), ne-eqb _ 1 (c .match .rest .1))
+returns-3 c = simp (c .match .keys3)
+
+returns-4 : tie.Need-returns-4
+unfolding entryAt
+returns-4 c =
+    let others = c .match .rest in
+    simp (ne-eqb _ 0 (others .0 .0 .1), ne-eqb _ 1 (others .0 .1), ne-eqb _ 2 (others .1))
 
 pub entry-spec : {M : Type 1} → statement M
-entry-spec = tie.close (tie.spec returns returns-2 returns-3)
+entry-spec = tie.close (tie.spec returns returns-2 returns-3 returns-4)

@@ -14,6 +14,9 @@ part-requires c κs = search needs
 entry-requires : tie.Need-entry-requires
 entry-requires c κs = search needs
 
+header-requires : tie.Need-header-requires
+header-requires c κs = search needs
+
 part-requires-2 : tie.Need-part-requires-2
 part-requires-2 c κs = search needs
 
@@ -67,7 +70,7 @@ returns-12 c = rw (c .before .match .keys12, c .part .ensures) refl
 
 returns-13 : tie.Need-returns-13
 unfolding callAt lineAt lines
-returns-13 c = rw (c .before .match .keys13, c .entry .ensures) refl
+returns-13 c = rw (c .before .before .match .keys13, c .header .ensures, c .before .entry .ensures) refl
 
 returns-14 : tie.Need-returns-14
 unfolding callAt lineAt lines
@@ -106,8 +109,16 @@ unfolding callAt lineAt lines
 returns-22 c = rw (c .match .keys22) refl
 
 returns-23 : tie.Need-returns-23
+unfolding callAt lineAt lines
+returns-23 c = rw (c .match .keys23) refl
+
+returns-24 : tie.Need-returns-24
+unfolding callAt lineAt lines
+returns-24 c = rw (c .match .keys24) refl
+
+returns-25 : tie.Need-returns-25
 unfolding lines
-returns-23 c = let behind = others-above _ 22 (c .match .rest) in no-call _ _ _ _ (omega (arith, behind))
+returns-25 c = let behind = others-above _ 24 (c .match .rest) in no-call _ _ _ _ (omega (arith, behind))
 
 pub other-spec : {M : Type 1} → statement M
 other-spec =
@@ -115,6 +126,7 @@ other-spec =
     (tie.spec
     part-requires
     entry-requires
+    header-requires
     part-requires-2
     returns
     returns-2
@@ -138,4 +150,6 @@ other-spec =
     returns-20
     returns-21
     returns-22
-    returns-23)
+    returns-23
+    returns-24
+    returns-25)
