@@ -68,7 +68,7 @@ module _ (parts : List (List Burst)) (r : AllReady parts) (t : bytesAll parts < 
     chip = chipOf m b p (h .registers)
 
     abbrev place : World
-    place = worldOf m b p s (h .image) (h .registers)
+    place = worldOf m b p (h .marks) s (h .image) (h .registers)
 
     -- a present place on the bus is sent its part,
     present-after : b ≡ 0 → p ≡ k → afterRound true true parts k v ≡ sentTo v (partAt parts k)

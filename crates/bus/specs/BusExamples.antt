@@ -10,7 +10,7 @@ use Rattle.calls.specs.declared.Setting.the-variants.{Lamp, Switch}
 use Rattle.calls.specs.declared.Request.the-variants.{Set, Update}
 use Rattle.rounds.specs.Round.{deal, finalPortions}
 use Rattle.history.specs.declared.World.{World}
-use Rattle.history.specs.Ledger.{toldOf}
+use Rattle.history.specs.Ledger.{Told}
 use Rattle.history.specs.History.{Call, call}
 use Rattle.bus.specs.Bus.{BusCall, plain, round, busTold}
 use Rattle.bus.specs.Places.{eventsAt}
@@ -46,7 +46,7 @@ events-at-1 w = refl
 
 -- its ledger is told these, and nothing of a round
 told-at-0 : (w : ℕ → World) (present : ℕ → Bool) (limit : ℕ) (buffer : List ℕ) →
-    busTold 0 w (round present limit buffer ∷ calls) ≡ toldOf (Set (Lamp 0 0 100)) [] ∷ toldOf (Set (Switch 0 1 1)) [] ∷ []
+    map (λ (x : Told). x .request) (busTold 0 w (round present limit buffer ∷ calls)) ≡ Set (Lamp 0 0 100) ∷ Set (Switch 0 1 1) ∷ []
 unfolding calls lamp switch
 told-at-0 w present limit buffer = refl
 

@@ -28,9 +28,9 @@ use Rattle.rounds.specs.DealLaws.{Takes, round-takes, part-is, four-parts, roun
 use Rattle.history.specs.declared.World.{World}
 use Rattle.history.specs.declared.CallAnswer as answers
 use Rattle.history.specs.Ledger.{entries}
-use Rattle.history.specs.LedgerLaws.{entries-append}
+use Rattle.history.specs.LedgerLaws.{enters-nothing, entries-append}
 use Rattle.history.specs.Step.{listIn, stepOf}
-use Rattle.history.specs.History.{AllAllowed, UpdateAnswers, updateList, Owed}
+use Rattle.history.specs.History.{tell, AllAllowed, UpdateAnswers, updateList, Owed}
 use Rattle.history.specs.RivalLaws.{all-own}
 use Rattle.history.specs.WorldLaws.{begins-sendable, may-write-after}
 use Rattle.history.specs.Theorem.{listOf, update-owes, finished-values, whole-lists}
@@ -96,12 +96,12 @@ module _ (m b p : ℕ → ℕ) (o : (k : ℕ) → k < 4 → opens (m k) (b k) (p
         let bus : b k ≡ 0 = sym (ap (λ (x : World). x .host .header .bus) (h k l .is)) ∙ q .bus k l e in
         let pins : p k ≡ k = sym (ap (λ (x : World). x .host .header .pins) (h k l .is)) ∙ q .pins k l e in
         let good = begins-sendable (m k) (b k) (p k) (o k l) (s k) (w k) (h k l) xs g .good in
-        let own : AllAllowed (b k) (p k) (headerOf (m k) (b k) (p k)) (map (transactionOf (b k) (p k)) xs) =
-        all-own (b k) (p k) (headerOf (m k) (b k) (p k)) xs (omega arith) good in
+        let header : Header = headerOf (m k) (b k) (p k) (h k l .marks) in
+        let own : AllAllowed (b k) (p k) header (map (transactionOf (b k) (p k)) xs) = all-own (b k) (p k) header xs (omega arith) good in
         each-for k l e (map (transactionOf 0 k) xs)
         (subst (λ (x : Header). AllAllowed (b k) (p k) x (map (transactionOf 0 k) xs)) (sym (ap (λ (x : World). x .host .header) (h k l .is)))
-        (subst (λ (y : ℕ). AllAllowed (b k) (p k) (headerOf (m k) (b k) (p k)) (map (transactionOf 0 y) xs)) pins
-        (subst (λ (x : ℕ). AllAllowed (b k) (p k) (headerOf (m k) (b k) (p k)) (map (transactionOf x (p k)) xs)) bus own)))
+        (subst (λ (y : ℕ). AllAllowed (b k) (p k) header (map (transactionOf 0 y) xs)) pins
+        (subst (λ (x : ℕ). AllAllowed (b k) (p k) header (map (transactionOf x (p k)) xs)) bus own)))
 
     -- those of any place
     place-for : (k : ℕ) → k < 4 → All (ForPlace b p w present) (map (transactionOf 0 k) (partAt parts k))
@@ -173,7 +173,8 @@ module _ (m b p : ℕ → ℕ) (o : (k : ℕ) → k < 4 → opens (m k) (b k) (p
     ledger-stays =
         ap (λ (xs : List BusCall). ledgerAt m b p k xs) (u .calls-are)
         ∙ bus-ledger-append (m k) k before (updateAt k buffer ∷ []) (resetImage (m k)) (starts m b p)
-        ∙ rw (eq-eqb k k refl) refl
+        ∙ rw (eq-eqb k k refl)
+        (enters-nothing (m k) (ledgerAt m b p k before) (tell (panelsAfter m b p before k) (record { request = Update; lent = buffer })) refl)
 
     last-owed : Owed (m k) (b k) (p k) (ledgerAt m b p k calls) (panelsAfter m b p before k) (panelsAfter m b p calls k)
         (updateList (panelsAfter m b p before k) buffer n t) n t
@@ -198,9 +199,9 @@ bus-whole-lists m b p opened calls =
           finished-values (m k) (b k) (p k) (o k l) (ledgerAt m b p k calls) (panelsAfter m b p calls k) (bus-holds m b p o calls k l);
     }
 
--- The addresses that may be written are at each place always its member's writable ones.
+-- The addresses that may be written are at each place always among its member's writable ones.
 pub bus-may-write : (m b p : ℕ → ℕ) → Opened m b p → (calls : List BusCall) (k : ℕ) → k < 4 → (a : ℕ) →
-    mayWrite (panelsAfter m b p calls k .host .header) a ≡ writableOf (m k) a
-bus-may-write m b p opened calls k l a =
-    ap (λ (x : World). mayWrite (x .host .header) a) (each-place m b p opened calls k l .world)
-    ∙ may-write-after (m k) (b k) (p k) (all-opened m b p opened k l) (placeEvents m b p k calls) a
+    mayWrite (panelsAfter m b p calls k .host .header) a ≡ true → writableOf (m k) a ≡ true
+bus-may-write m b p opened calls k l a e =
+    may-write-after (m k) (b k) (p k) (all-opened m b p opened k l) (placeEvents m b p k calls) a
+    (ap (λ (x : World). mayWrite (x .host .header) a) (sym (each-place m b p opened calls k l .world)) ∙ e)

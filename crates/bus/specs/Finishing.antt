@@ -9,7 +9,7 @@ use lib.Dec.{eqb}
 use lib.ListN.{length}
 use Rattle.plan.specs.Update.{valueAt}
 use Rattle.calls.specs.declared.Request.{Request}
-use Rattle.calls.specs.declared.Request.the-variants.{Set, Reset, PowerLost, Update}
+use Rattle.calls.specs.declared.Request.the-variants.{Set, Reset, PowerLost, Update, Lock}
 use Rattle.host.specs.declared.Record.{Record}
 use Rattle.update.specs.Update.{isListed, writesOf, resetAnswer}
 use Rattle.history.specs.declared.World.{World}
@@ -36,6 +36,7 @@ resets w (Set q) lent = false
 resets w Reset lent = isListed (resetAnswer (w .host) (length lent))
 resets w PowerLost lent = true
 resets w Update lent = false
+resets w Lock lent = false
 
 -- the call leaves the settings as they are, and does not reset
 pub record Still (w : World) (c : Call) : Type 0 where

@@ -10,7 +10,7 @@ use native.Mathlib.Omega.{arith}
 use borrow.Author.Tests.{eqb-true}
 use lib.Dec.{eqb}
 use lib.ListN.{length}
-use Rattle.map.specs.Refusals.{opens}
+use Rattle.map.specs.Refusals.{accepted, opens}
 use Rattle.burst.specs.Burst.{Burst, busBytes}
 use Rattle.plan.specs.Lists.{All}
 use Rattle.plan.specs.Update.{valueAt, seen, storeAll, Images}
@@ -18,19 +18,22 @@ use Rattle.plan.specs.Portion.{portion}
 use Rattle.plan.specs.PortionLaws.{First, portion-bytes, portion-begins, portion-empty, portion-more, portion-first, begins-bytes, begins-all}
 use Rattle.calls.specs.declared.Setting.{Setting}
 use Rattle.calls.specs.declared.Request.{Request}
-use Rattle.calls.specs.declared.Request.the-variants.{Set, Reset, PowerLost, Update}
+use Rattle.calls.specs.declared.Request.the-variants.{Set, Reset, PowerLost, Update, Lock}
 use Rattle.host.specs.declared.Header.{Header}
 use Rattle.host.specs.declared.Record.{Record}
-use Rattle.host.specs.Record.{headerOf, recordOf, mayWrite, changedTo, settingOf}
+use Rattle.host.specs.Record.{headerOf, recordOf, locked, mayWrite, changedTo, settingOf, lockAnswer, lockOf}
+use Rattle.host.specs.LockLaws.{LockTaken, lock-taken}
+use Rattle.host.specs.SoundLaws.{Sound, sound-is}
 use Rattle.update.specs.Update.{isListed, sendAnswer, sendOf, writesOf, updating, resetting}
 use Rattle.update.specs.SendLaws.{host-kept}
+use Rattle.update.specs.LockedLaws.{marked, lock-nothing, free-is}
 use Rattle.rounds.specs.Round.{shareOf, takes, roundRoom}
 use Rattle.rounds.specs.DealLaws.{room-share, round-takes}
 use Rattle.history.specs.declared.World.{World}
 use Rattle.history.specs.Ledger.{entries, wantsOn}
 use Rattle.history.specs.Step.{stepOf, partStep}
 use Rattle.history.specs.History.{Call, Event, call, part, eventStep, run, told, SameWritable}
-use Rattle.history.specs.WorldLaws.{worldOf, Holds, ready, event-holds, run-holds}
+use Rattle.history.specs.WorldLaws.{worldOf, Holds, is-so, ready, event-holds, run-holds}
 use Rattle.bus.specs.Bus.{hostsOf, accepts, BusCall, plain, round, busStep, starts, panelsAfter, ledgerAt}
 use Rattle.bus.specs.Places.{eventsOf, eventsAt, Opened}
 use Rattle.bus.specs.BridgeLaws.{AllHold, call-is, call-holds, projected, bus-holds, all-opened}
@@ -46,7 +49,7 @@ Nearer r done d = (writesOf r ≡ []) ⊎ (differingOf r + done ≤ d)
 
 module _ (m b p : ℕ) (o : opens m b p ≡ true) (s : List ℕ) (w : World) (h : Holds m b p s w) where
   abbrev header : Header
-  header = headerOf m b p
+  header = headerOf m b p (h .marks)
 
   abbrev host : Record
   host = recordOf header s (h .image)
@@ -125,7 +128,7 @@ module _ (m b p : ℕ) (o : opens m b p ≡ true) (s : List ℕ) (w : World) (h 
   -- ---- a call under which settings stand still
 
   abbrev world : World
-  world = worldOf m b p s image (h .registers)
+  world = worldOf m b p (h .marks) s image (h .registers)
 
   setting-same : (q : Setting) (lent : List ℕ) →
       settingOf host q lent .host ≡ recordOf header (settingOf host q lent .host .settings) image
@@ -140,9 +143,24 @@ module _ (m b p : ℕ) (o : opens m b p ≡ true) (s : List ℕ) (w : World) (h 
       sent (inl e) = inl (ap (λ (xs : List Burst). writesOf (takes host xs)) e ∙ e)
       sent (inr l) = inr (omega (arith, whole-le))
 
-      go : (c : Bool) → Nearer (recordOf header s (cond c (storeAll (writesOf host) image) image)) done d
+      go : (c : Bool) → Nearer (cond c (takes host (writesOf host)) host) done d
       go true = sent near
       go false = near
+
+  -- a Lock leaves both images, and what is finished stays so
+  lock-nearer : (done d : ℕ) → Nearer host done d → Nearer (lockOf host .host) done d
+  unfolding lockOf
+  lock-nearer done d near = go (accepted (lockAnswer host)) refl near
+    where
+      sound : Sound host
+      sound = sound-is host (is-so m b p o s w h)
+
+      go : (c : Bool) → accepted (lockAnswer host) ≡ c → Nearer host done d → Nearer (cond c (marked host locked) host) done d
+      go true e (inl q) =
+          let t : LockTaken host = lock-taken host e in
+          inl (lock-nothing host (h .settings-fit) (t .trims) (ap writesOf (sym (free-is host sound (t .free))) ∙ q))
+      go true e (inr l) = inr l
+      go false e k = k
 
   -- no more registers differ, and what is finished stays so
   still-nearer-here : (request : Request) (lent : List ℕ) → stepOf world request lent .world .host .settings ≡ s → resets world request lent ≡ false →
@@ -153,6 +171,7 @@ module _ (m b p : ℕ) (o : opens m b p ≡ true) (s : List ℕ) (w : World) (h 
       subst (λ (r : Record). Nearer r done d) (sym (host-kept host (resetting host) (length lent) n)) near
   still-nearer-here PowerLost lent e n done d near = absurd (true≢false n)
   still-nearer-here Update lent e n done d near = update-nearer (length lent) done d near
+  still-nearer-here Lock lent e n done d near = lock-nearer done d near
 
   -- ---- in terms of the world
 

@@ -17,6 +17,7 @@ use Rattle.burst.specs.Burst.{busBytes}
 use Rattle.faults.specs.declared.Answer as faults
 use Rattle.faults.specs.Faults.{answerNumbers, faultsAnswer, faultsResult}
 use Rattle.calls.specs.declared.Request.{Request}
+use Rattle.calls.specs.declared.Request.the-variants.{Set, Reset, PowerLost, Update, Lock}
 use Rattle.host.specs.declared.Changed.{Changed}
 use Rattle.host.specs.declared.Record.{Record}
 use Rattle.host.specs.Record.{openOf, soundOf}
@@ -26,9 +27,10 @@ use Rattle.update.specs.Update.{writesOf, sendAnswer, sendOf, updateOf}
 use Rattle.update.specs.BoundLaws.{always-room}
 use Rattle.chip.specs.declared.Opened.{Opened}
 use Rattle.chip.specs.Chip.{atResetOf}
+use Rattle.history.specs.declared.World.{World}
 use Rattle.history.specs.declared.Stepped.{Stepped}
 use Rattle.history.specs.declared.Ledger.{Ledger}
-use Rattle.history.specs.Step.{Step, leaving, stepOf}
+use Rattle.history.specs.Step.{Step, answersLocked, leaving, stepOf}
 use Rattle.history.specs.Ledger.{toldOf, openedLedger, enteredOf}
 use Rattle.script.specs.declared.command.Command.{Command}
 use Rattle.script.specs.declared.command.Line.the-variants.{Run}
@@ -38,7 +40,7 @@ use Rattle.script.specs.LineLaws.{CommandFits, Fits, fits}
 use Rattle.script.specs.declared.command.Lent.the-variants.{Room}
 use Rattle.text.specs.Text.{Puts}
 use Rattle.replies.specs.declared.Reply.{Reply}
-use Rattle.replies.specs.declared.Reply.the-variants.{Bad, Numbers, Lent, Bytes, Same, Differs}
+use Rattle.replies.specs.declared.Reply.the-variants.{Bad, Numbers, Lent, Bytes, Same, Differs, Free, Locked}
 use Rattle.session.specs.declared.Session.{Session}
 use Rattle.session.specs.declared.outcomes.Outcome.{Outcome}
 use Rattle.session.specs.Run.{Effect, Does, Plain, Words, answered, numbered, openedSession, openEffect, stepEffect, told, callEffect, faultsEffect, shownBytes, pendingNumbers, effectOf}
@@ -52,6 +54,8 @@ plain-words (Lent n) p = omega arith
 plain-words Bytes p = omega arith
 plain-words Same p = omega arith
 plain-words (Differs a) p = omega arith
+plain-words Free p = omega arith
+plain-words Locked p = omega arith
 
 -- ---- `open`
 
@@ -77,14 +81,28 @@ does-front r x y e d = record {
   words = d .words;
 }
 
+-- the ledger may be told of the lent bytes after the call: a setting leaves them, and of the others it takes no byte
+told-after : (w : World) (g : Ledger) (q : Request) (lent : List ℕ) (locked : Bool) →
+    enteredOf g (toldOf q (stepOf w q lent .lent) locked) ≡ enteredOf g (toldOf q lent locked)
+unfolding enteredOf
+told-after w g (Set q) lent locked = refl
+told-after w g Reset lent locked = refl
+told-after w g PowerLost lent locked = refl
+told-after w g Update lent locked = refl
+told-after w g Lock lent locked = refl
+
 -- a call on the bytes that are lent: old before it, new after it
-pub call-does : (s : Session) (q : Request) (lent : lents.Lent) (old new : List ℕ) (g : Ledger) (x : Stepped) (r : Outcome) →
-    g ≡ enteredOf (s .ledger) (toldOf q old) → leaving x new ≡ stepOf (s .world) q old →
+pub call-does : (s : Session) (q : Request) (lent : lents.Lent) (old new : List ℕ) (x : Stepped) (locked : Bool) (g : Ledger) (r : Outcome) →
+    leaving x new ≡ stepOf (s .world) q old → locked ≡ answersLocked (x .answer) → g ≡ enteredOf (s .ledger) (toldOf q new locked) →
     ((b : List ℕ) → length new ≤ length b →
     Does r b (stepEffect (record { world = s .world; ledger = g; valid = s .valid }) lent (leaving x (take (length new) b)))) →
     Does r new (callEffect s q lent old)
 unfolding callEffect told
-call-does s q lent old new g x r eg ex d = rw (← eg, ← ex) (rw (take-length new) at (d new (omega arith)))
+call-does s q lent old new x locked g r ex el eg d =
+    let after : new ≡ stepOf (s .world) q old .lent = ap (λ (y : Step). y .lent) ex in
+    let entered : g ≡ enteredOf (s .ledger) (toldOf q old locked) =
+        eg ∙ ap (λ (l : List ℕ). enteredOf (s .ledger) (toldOf q l locked)) after ∙ told-after (s .world) (s .ledger) q old locked in
+    rw (← ex, ← el, ← entered) (rw (take-length new) at (d new (omega arith)))
 
 -- a call that shows the first n bytes of the buffer
 module _ (n : ℕ) (part old : List ℕ) (h : n ≤ 8192) (o : length old ≡ 8192) (e : length part ≡ length (take n old)) where

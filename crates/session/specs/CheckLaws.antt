@@ -12,7 +12,7 @@ use lib.Dec.{eqb}
 use lib.ListN.{getD}
 use Rattle.map.specs.Map.{writableOf}
 use Rattle.replies.specs.declared.Reply.{Reply}
-use Rattle.replies.specs.declared.Reply.the-variants.{Bad, Numbers, Lent, Bytes, Same, Differs}
+use Rattle.replies.specs.declared.Reply.the-variants.{Bad, Numbers, Lent, Bytes, Same, Differs, Free, Locked}
 use Rattle.session.specs.declared.Session.{Session}
 use Rattle.session.specs.Run.{Plain, chipDiffers, compareFrom, compared}
 
@@ -50,6 +50,8 @@ named (Lent n) = 0
 named Bytes = 0
 named Same = 0
 named (Differs a) = 2 + a
+named Free = 0
+named Locked = 0
 
 module _ (m : ℕ) (x y : List ℕ) where
   -- a writable address has the same byte in both

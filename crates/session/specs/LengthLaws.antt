@@ -16,9 +16,10 @@ use Rattle.map.specs.RefusalLaws.{refusal-small}
 use Rattle.burst.specs.Burst.{busBytes, dataBytes}
 use Rattle.burst.specs.BurstLaws.{bus-data}
 use Rattle.calls.specs.declared.Request.{Request}
-use Rattle.calls.specs.declared.Request.the-variants.{Set, Reset, PowerLost, Update}
+use Rattle.calls.specs.declared.Request.the-variants.{Set, Reset, PowerLost, Update, Lock}
+use Rattle.host.specs.declared.Header.{Header}
 use Rattle.host.specs.declared.Record.{Record}
-use Rattle.host.specs.Record.{soundOf}
+use Rattle.host.specs.Record.{isLocked, soundOf}
 use Rattle.update.specs.declared.ListAnswer.{ListAnswer}
 use Rattle.update.specs.declared.ListAnswer.the-variants.{Listed, Short, Refused}
 use Rattle.update.specs.Update.{listNumbers, updateNumbers, isListed, listSize, writesOf, Sending, sendAnswer, sendOf, updating, command}
@@ -39,12 +40,13 @@ use Rattle.script.specs.declared.command.Line.the-variants.{Run}
 use Rattle.script.specs.Lines.{lineOf}
 use Rattle.script.specs.LineLaws.{BufferFits, CommandFits, Fits, fits}
 use Rattle.replies.specs.declared.Reply.{Reply}
-use Rattle.replies.specs.declared.Reply.the-variants.{Bad, Numbers, Lent, Bytes, Same, Differs}
+use Rattle.replies.specs.declared.Reply.the-variants.{Bad, Numbers, Lent, Bytes, Same, Differs, Free, Locked}
 use Rattle.replies.specs.Replies.{numbersText, lentText, differsWord, replyText, replyLine}
 use Rattle.replies.specs.ReplyLaws.{numbers-most, numbers-within, first-within}
 use Rattle.session.specs.declared.Session.{Session}
 use Rattle.session.specs.declared.outcomes.Outcome.{Outcome}
-use Rattle.session.specs.Run.{Effect, Does, Plain, Words, alone, answered, numbered, openEffect, stepEffect, callEffect, feedEffect, faultsEffect, shownBytes, behindBack, compared, pendingEffect, lentOf, showing, effectOf}
+use Rattle.session.specs.Run.{Effect, Does, Plain, Words, alone, answered, numbered, openEffect, stepEffect, callEffect, feedEffect}
+use Rattle.session.specs.Run.{faultsEffect, shownBytes, behindBack, compared, pendingEffect, marksReply, lentOf, showing, effectOf}
 use Rattle.session.specs.CheckLaws.{compared-plain}
 
 -- ---- answers
@@ -134,6 +136,8 @@ ShortLent (Lent n) = length (numbersText (numbersIn n)) ≤ 13
 ShortLent Bytes = 0 ≤ 0
 ShortLent Same = 0 ≤ 0
 ShortLent (Differs a) = 0 ≤ 0
+ShortLent Free = 0 ≤ 0
+ShortLent Locked = 0 ≤ 0
 
 shown-most : (x : List ℕ) → length x ≤ 8192 → length (bytesText x) ≤ 16384
 shown-most x h = bytes-length 16384 x (omega arith) (omega arith)
@@ -156,6 +160,8 @@ reply-most (Lent n) x h w s = omega (arith, length-append (numbersText (numbersI
 reply-most Bytes x h w s = omega (arith, shown-most x h)
 reply-most Same x h w s = omega arith
 reply-most (Differs a) x h w s = omega (arith, length-append differsWord (addressText a), address-length a)
+reply-most Free x h w s = omega arith
+reply-most Locked x h w s = omega arith
 
 -- ---- lines
 
@@ -167,6 +173,17 @@ plain-short (Lent n) p = absurd (omega arith)
 plain-short Bytes p = omega arith
 plain-short Same p = omega arith
 plain-short (Differs a) p = omega arith
+plain-short Free p = omega arith
+plain-short Locked p = omega arith
+
+-- `free` and `locked` have no numbers
+pub marks-plain : (h : Header) → Plain (marksReply h)
+unfolding marksReply Plain
+marks-plain h = go (isLocked h)
+  where
+    go : (b : Bool) → Plain (cond b Locked Free)
+    go true = omega arith
+    go false = omega arith
 
 call-short : (w : World) (q : Request) (lent : lents.Lent) (bytes x : List ℕ) (s : Session) → BufferFits q lent →
     ShortLent (answered lent (callNumbers (stepOf w q bytes .answer)) x s .reply)
@@ -177,6 +194,7 @@ call-short w (Set q) (Room n) bytes x s f = absurd (omega arith)
 call-short w Reset (Room n) bytes x s f = command-most w _ _ _ bytes (omega arith)
 call-short w PowerLost (Room n) bytes x s f = absurd (omega arith)
 call-short w Update (Room n) bytes x s f = update-most w bytes
+call-short w Lock (Room n) bytes x s f = absurd (omega arith)
 
 line-short : (s : Session) (c : Command) (l b : List ℕ) → CommandFits l c → ShortLent (effectOf s c l b .reply)
 unfolding effectOf openEffect callEffect stepEffect feedEffect faultsEffect shownBytes behindBack pendingEffect numbered alone answered CommandFits ShortLent
@@ -191,6 +209,7 @@ line-short s (commands.Poke p a v) l b f = omega arith
 line-short s (commands.Header e v) l b f = omega arith
 line-short s commands.Check l b f = plain-short (compared s) (compared-plain s)
 line-short s commands.Pending l b f = omega arith
+line-short s commands.Marks l b f = plain-short _ (marks-plain (s .world .host .header))
 
 -- no command's line of reply has more bytes, its LF counted: `0 n t stored BUFFER` of an update with three digits for each, and 8,192
 -- bytes

@@ -17,13 +17,13 @@ use Rattle.burst.specs.Burst.{busBytes}
 use Rattle.calls.specs.declared.Request.{Request}
 use Rattle.host.specs.declared.Header.{Header}
 use Rattle.host.specs.declared.Record.{Record}
-use Rattle.host.specs.Record.{recordOf, soundOf}
+use Rattle.host.specs.Record.{headerOf, recordOf, isLocked, markedAs, soundOf}
 use Rattle.update.specs.Update.{writesOf}
 use Rattle.chip.specs.declared.Chip as chips
 use Rattle.chip.specs.Chip.{chipOf, feedOf}
 use Rattle.faults.specs.Faults.{answerNumbers, faultsAnswer, faultsResult}
 use Rattle.history.specs.declared.World.{World}
-use Rattle.history.specs.Step.{Step, callNumbers, stepOf, clearStep}
+use Rattle.history.specs.Step.{Step, callNumbers, answersLocked, stepOf, clearStep}
 use Rattle.history.specs.Ledger.{toldOf, openedLedger, enteredOf}
 use Rattle.history.specs.History.{start}
 use Rattle.script.specs.declared.command.Command.{Command}
@@ -33,11 +33,11 @@ use Rattle.script.specs.declared.command.Lent.the-variants.{Nothing, Word, Room
 use Rattle.script.specs.declared.command.Part.{Part}
 use Rattle.script.specs.declared.command.Part.the-variants.{Settings, Image, Chip}
 use Rattle.script.specs.declared.command.Entry.{Entry}
-use Rattle.script.specs.declared.command.Entry.the-variants.{Member, Bus, Pins}
+use Rattle.script.specs.declared.command.Entry.the-variants.{Member, Bus, Pins, Lock as LockMark}
 use Rattle.script.specs.Words.{wordAt}
 use Rattle.script.specs.Bytes.{bytesOf}
 use Rattle.replies.specs.declared.Reply.{Reply}
-use Rattle.replies.specs.declared.Reply.the-variants.{Bad, Numbers, Lent, Bytes, Same, Differs}
+use Rattle.replies.specs.declared.Reply.the-variants.{Bad, Numbers, Lent, Bytes, Same, Differs, Free, Locked}
 use Rattle.session.specs.declared.Session.{Session}
 use Rattle.session.specs.declared.outcomes.Outcome.{Outcome}
 
@@ -61,6 +61,8 @@ Plain (Lent n) = 1 ≤ 0
 Plain Bytes = 0 ≤ 0
 Plain Same = 0 ≤ 0
 Plain (Differs a) = 0 ≤ 0
+Plain Free = 0 ≤ 0
+Plain Locked = 0 ≤ 0
 
 -- a number without a buffer is a machine's word
 unfoldable pub Words : Reply → Type 0
@@ -70,6 +72,8 @@ Words (Lent n) = 0 ≤ 0
 Words Bytes = 0 ≤ 0
 Words Same = 0 ≤ 0
 Words (Differs a) = 0 ≤ 0
+Words Free = 0 ≤ 0
+Words Locked = 0 ≤ 0
 
 -- it is this effect, and the buffer has all that is shown
 pub record Does (x : Outcome) (buffer : List ℕ) (e : Effect) : Type 0 where
@@ -111,9 +115,9 @@ withWorld s w = record { world = w; ledger = s .ledger; valid = s .valid }
 unfoldable pub stepEffect : Session → lents.Lent → Step → Effect
 stepEffect s lent x = answered lent (callNumbers (x .answer)) (x .lent) (withWorld s (x .world))
 
--- "the ledger of the accepted settings" is told of a call of the list of demand 3
-unfoldable pub told : Session → Request → List ℕ → Session
-told s q bytes = record { world = s .world; ledger = enteredOf (s .ledger) (toldOf q bytes); valid = s .valid }
+-- "the ledger of the accepted settings" is told of a call of the list of demand 3, and Q-5: it "is told of each 17, of no other answer"
+unfoldable pub told : Session → Request → List ℕ → Bool → Session
+told s q bytes locked = record { world = s .world; ledger = enteredOf (s .ledger) (toldOf q bytes locked); valid = s .valid }
 
 -- what is lent to it: nothing, the bytes of a word, or a buffer of so many
 unfoldable pub lentOf : lents.Lent → List ℕ → List ℕ → List ℕ
@@ -123,7 +127,9 @@ lentOf (Room n) l b = take n b
 
 -- such a call on the bytes that are lent
 unfoldable pub callEffect : Session → Request → lents.Lent → List ℕ → Effect
-callEffect s q lent bytes = stepEffect (told s q bytes) lent (stepOf (s .world) q bytes)
+callEffect s q lent bytes =
+    let x : Step = stepOf (s .world) q bytes in
+    stepEffect (told s q bytes (answersLocked (x .answer))) lent x
 
 -- ---- `feed`, `faults`
 
@@ -161,17 +167,19 @@ poked w Settings a v = record { host = recordOf (w .host .header) (set (w .host 
 poked w Image a v = record { host = recordOf (w .host .header) (w .host .settings) (set (w .host .image) a v); chip = w .chip }
 poked w Chip a v = record { host = w .host; chip = chipOf (w .chip .member) (w .chip .bus) (w .chip .pins) (set (w .chip .registers) a v) }
 
--- "puts V (decimal, at most 255, else `?`) into the record"
+-- "puts V (decimal, at most 255, else `?`) into the record"; of `lock` V is the mark
 unfoldable pub headerWith : Header → Entry → ℕ → Header
-headerWith h Member v = record { member = v; bus = h .bus; pins = h .pins }
-headerWith h Bus v = record { member = h .member; bus = v; pins = h .pins }
-headerWith h Pins v = record { member = h .member; bus = h .bus; pins = v }
+headerWith h Member v = headerOf v (h .bus) (h .pins) (h .marks)
+headerWith h Bus v = headerOf (h .member) v (h .pins) (h .marks)
+headerWith h Pins v = headerOf (h .member) (h .bus) v (h .marks)
+headerWith h LockMark v = markedAs h v
 
--- "and into the chip"
+-- "and into the chip"; a lock's V goes "into the record only"
 unfoldable pub chipWith : chips.Chip → Entry → ℕ → chips.Chip
 chipWith c Member v = chipOf v (c .bus) (c .pins) (c .registers)
 chipWith c Bus v = chipOf (c .member) v (c .pins) (c .registers)
 chipWith c Pins v = chipOf (c .member) (c .bus) v (c .registers)
+chipWith c LockMark v = c
 
 unfoldable pub withEntry : World → Entry → ℕ → World
 withEntry w e v = record { host = recordOf (headerWith (w .host .header) e v) (w .host .settings) (w .host .image); chip = chipWith (w .chip) e v }
@@ -207,6 +215,12 @@ pendingNumbers r = cond (soundOf r) (length (writesOf r) ∷ busBytes (writesOf 
 unfoldable pub pendingEffect : Session → Effect
 pendingEffect s = alone (Numbers (numbersOf (pendingNumbers (s .world .host)))) s
 
+-- ---- `marks`
+
+-- "`free` or `locked`"
+unfoldable pub marksReply : Header → Reply
+marksReply h = cond (isLocked h) Locked Free
+
 -- ---- A line
 
 -- the table's middle column, a line of it each
@@ -222,3 +236,4 @@ effectOf s (commands.Poke p a v) l b = behindBack s (poked (s .world) p a v)
 effectOf s (commands.Header e v) l b = behindBack s (withEntry (s .world) e v)
 effectOf s commands.Check l b = alone (compared s) s
 effectOf s commands.Pending l b = pendingEffect s
+effectOf s commands.Marks l b = alone (marksReply (s .world .host .header)) s

@@ -53,6 +53,7 @@ fn header_with(mut header: Header, entry: Entry, value: u8) -> Header
         Entry::Member => header.member = value,
         Entry::Bus => header.bus = value,
         Entry::Pins => header.pins = value,
+        Entry::Lock => header.marks = value,
     }
     header
 }
@@ -64,6 +65,7 @@ fn chip_with(mut chip: Chip, entry: Entry, value: u8) -> Chip
         Entry::Member => chip.member = value,
         Entry::Bus => chip.bus = value,
         Entry::Pins => chip.pins = value,
+        Entry::Lock => {}
     }
     chip
 }

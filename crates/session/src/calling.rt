@@ -47,12 +47,15 @@ fn stepped(mut session: Session, stepped: Stepped, lent: Lent, room: usize) -> O
     answered(lent, history::call_numbers(answer), room, session)
 }
 
-// A call on the bytes that are lent; the ledger is told of it.
+// A call on the bytes that are lent; the ledger is told of it, and whether it was answered 17. A setting leaves the bytes as they were lent,
+// and of the other calls the ledger takes none.
 fn call_on(mut session: Session, request: Request, lent: Lent, bytes: &mut [u8]) -> Outcome
     ensures { λ r. ⌜ Does r (now (bytes .exit)) (callEffect session request lent (now (bytes .entry))) ⌝ }
 {
-    session.ledger = history::enter(session.ledger, request, bytes);
     let after = history::step(session.world, request, bytes);
+    let answer = after.answer;
+    let locked = history::answers_locked(answer);
+    session.ledger = history::enter(session.ledger, request, bytes, locked);
     stepped(session, after, lent, bytes.len())
 }
 

@@ -7,6 +7,7 @@ mod behind;
 mod calling;
 mod checking;
 mod lines;
+mod marking;
 mod opening;
 mod outcomes;
 mod pending;

@@ -8,6 +8,7 @@ use crate::Session;
 use crate::behind;
 use crate::calling;
 use crate::checking;
+use crate::marking;
 use crate::opening;
 use crate::outcomes::Outcome;
 use crate::outcomes::alone;
@@ -33,5 +34,6 @@ pub fn run(session: Session, command: Command, line: &[u8], buffer: &mut [u8]) -
         Command::Header(entry, value) => behind::header(session, entry, value),
         Command::Check => checking::check(session),
         Command::Pending => pending::pending(session),
+        Command::Marks => marking::marks(session),
     }
 }

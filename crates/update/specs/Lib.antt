@@ -4,5 +4,6 @@ pub mod SendLaws
 pub mod UpdateLaws
 pub mod BoundLaws
 pub mod StoredLaws
+pub mod LockedLaws
 pub mod UpdateExamples
 pub mod PieceLaws
