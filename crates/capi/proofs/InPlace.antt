@@ -128,20 +128,20 @@ module _ (bytes : List ℕ) (h : length bytes ≡ recordSize) where
       new ≡ cond b (recordBytes (chipReset (recordIn bytes))) bytes
   unfolding recordIn
   reset-stored header eh b part new ep en =
+      let whole = eq-eqb (length (imageIn bytes)) 908 (part-length imageAt 908 bytes (omega arith)) in
       en
-      ∙ ap marked
-      (ep ∙ ap (λ (t : Bool). cond (b && t) (resetImage (header .member)) (imageIn bytes)) (eq-eqb (length (imageIn bytes)) 908 (part-length imageAt 908 bytes (omega arith)))
+      ∙ ap (marked b)
+      (ep ∙ ap (λ (t : Bool). cond (b && t) (resetImage (header .member)) (imageIn bytes)) whole
       ∙ ap (λ (x : Header). cond (b && true) (resetImage (x .member)) (imageIn bytes)) eh)
       ∙ go b
     where
-      marked : List ℕ → List ℕ
-      marked l = cond b (set (putPart imageAt 908 bytes l) marksAt free) (putPart imageAt 908 bytes l)
+      marked : Bool → List ℕ → List ℕ
+      marked t l = cond t (set (putPart imageAt 908 bytes l) marksAt free) (putPart imageAt 908 bytes l)
 
       values : List ℕ
       values = resetImage (headerIn bytes .member)
 
-      go : (t : Bool) → cond t (set (putPart imageAt 908 bytes (cond (t && true) values (imageIn bytes))) marksAt free) (putPart imageAt 908 bytes (cond (t && true) values (imageIn bytes)))
-          ≡ cond t (recordBytes (chipReset (recordOf (headerIn bytes) (settingsIn bytes) (imageIn bytes)))) bytes
+      go : (t : Bool) → marked t (cond (t && true) values (imageIn bytes)) ≡ cond t (recordBytes (chipReset (recordIn bytes))) bytes
       go true =
           ap (λ (l : List ℕ). set l marksAt free) (image-put true values)
           ∙ marks-stored (recordOf (headerIn bytes) (settingsIn bytes) values) free
@@ -163,7 +163,7 @@ module _ (bytes : List ℕ) (h : length bytes ≡ recordSize) where
               (settings-put (accepted (settingAnswer (recordOf (headerIn bytes) (settingsIn bytes) (imageIn bytes)) q lent)) (putSetting (settingsIn bytes) q lent)),
         )
 
-    -- a call that chooses between a record and the old one, by its answer
+    -- a call with the answer f, which leaves the record `host` where it is accepted
     record-done : (f : Record → Answer) (x : Changed) (host : Record) (number : ℕ) (new : List ℕ) → x .answer ≡ f (recordIn bytes) →
         x .host ≡ cond (accepted (f (recordIn bytes))) host (recordIn bytes) → answer ≡ f (recordOf header (settingsIn bytes) (imageIn bytes)) →
         number ≡ answerNumber answer → new ≡ cond (accepted answer) (recordBytes host) bytes → Done bytes x number new
@@ -171,15 +171,18 @@ module _ (bytes : List ℕ) (h : length bytes ≡ recordSize) where
     record-done f x host number new xa xh ea en eb =
         let e : answer ≡ f (recordIn bytes) = ea ∙ ap (λ (y : Header). f (recordOf y (settingsIn bytes) (imageIn bytes))) eh in
         done bytes new x number h (en ∙ ap answerNumber (e ∙ sym xa))
-        (eb ∙ ap (λ (y : Answer). cond (accepted y) (recordBytes host) bytes) e ∙ chosen (accepted (f (recordIn bytes))) host (recordIn bytes) bytes ∙ rw (xa, xh) refl)
+        (eb ∙ ap (λ (y : Answer). cond (accepted y) (recordBytes host) bytes) e
+        ∙ chosen (accepted (f (recordIn bytes))) host (recordIn bytes) bytes ∙ rw (xa, xh) refl)
 
-    pub lost-done : (number : ℕ) (part new : List ℕ) → answer ≡ soundAnswer (recordOf header (settingsIn bytes) (imageIn bytes)) → number ≡ answerNumber answer →
+    pub lost-done : (number : ℕ) (part new : List ℕ) → answer ≡ soundAnswer (recordOf header (settingsIn bytes) (imageIn bytes)) →
+        number ≡ answerNumber answer →
         part ≡ cond (accepted answer && eqb (length (imageIn bytes)) 908) (resetImage (header .member)) (imageIn bytes) →
         new ≡ cond (accepted answer) (set (putPart imageAt 908 bytes part) marksAt free) (putPart imageAt 908 bytes part) →
         Done bytes (powerLostOf (recordIn bytes)) number new
     unfolding powerLostOf
     lost-done number part new ea en ep em =
-        record-done soundAnswer (powerLostOf (recordIn bytes)) (chipReset (recordIn bytes)) number new refl refl ea en (reset-stored header eh (accepted answer) part new ep em)
+        record-done soundAnswer (powerLostOf (recordIn bytes)) (chipReset (recordIn bytes)) number new refl refl ea en
+        (reset-stored header eh (accepted answer) part new ep em)
 
     -- Lock puts its mark
     pub lock-done : (number : ℕ) (new : List ℕ) → answer ≡ lockAnswer (recordOf header (settingsIn bytes) (imageIn bytes)) → number ≡ answerNumber answer →
@@ -187,7 +190,8 @@ module _ (bytes : List ℕ) (h : length bytes ≡ recordSize) where
     unfolding lockOf
     lock-done number new ea en em =
         record-done lockAnswer (lockOf (recordIn bytes)) _ number new refl refl ea en
-        (em ∙ ap (λ (l : List ℕ). cond (accepted answer) l bytes) (ap (λ (l : List ℕ). set l marksAt locked) (sym (record-round bytes h)) ∙ marks-stored (recordIn bytes) locked))
+        (em ∙ ap (λ (l : List ℕ). cond (accepted answer) l bytes)
+        (ap (λ (l : List ℕ). set l marksAt locked) (sym (record-round bytes h)) ∙ marks-stored (recordIn bytes) locked))
 
 -- ---- Open
 
@@ -222,7 +226,9 @@ front-marks : (n m b p marks : ℕ) (bytes first new : List ℕ) → 4 ≤ n →
     Front n 4 (m ∷ b ∷ p ∷ marks ∷ []) new
 front-marks n m b p marks bytes first new l h e q = record {
   size = ap length q ∙ length-set first marksAt marks ∙ front-first n m b p bytes first (omega arith) h e .size;
-  is = ap (take 4) (q ∙ ap (λ (x : List ℕ). set x marksAt marks) e) ∙ ap (λ (x : List ℕ). m ∷ b ∷ p ∷ x) (one (drop 3 bytes) (omega (arith, length-drop 3 bytes)));
+  is =
+      ap (take 4) (q ∙ ap (λ (x : List ℕ). set x marksAt marks) e)
+      ∙ ap (λ (x : List ℕ). m ∷ b ∷ p ∷ x) (one (drop 3 bytes) (omega (arith, length-drop 3 bytes)));
 }
   where
     one : (x : List ℕ) → 1 ≤ length x → take 1 (set x 0 marks) ≡ marks ∷ []
@@ -266,17 +272,20 @@ module _ (m b p : ℕ) (bytes first : List ℕ) (e : first ≡ m ∷ b ∷ p ∷
       putPart registersAt 908 first part ≡ chipBytes (newChip m b p)
   unfolding chipBytes newChip
   chip-put part h ep =
-      front-all chipSize _ _ (front-reset chipSize registersAt m (m ∷ b ∷ p ∷ []) first part (omega arith) (front-first chipSize m b p bytes first (omega arith) h e) ep)
+      let f = front-first chipSize m b p bytes first (omega arith) h e in
+      front-all chipSize _ _ (front-reset chipSize registersAt m (m ∷ b ∷ p ∷ []) first part (omega arith) f ep)
 
   pub record-put : (marked part last : List ℕ) → length bytes ≡ recordSize → marked ≡ set first marksAt free →
       part ≡ cond (eqb (length (take 908 (drop settingsAt marked))) 908) (resetImage m) (take 908 (drop settingsAt marked)) →
-      last ≡ cond (eqb (length (take 908 (drop imageAt (putPart settingsAt 908 marked part)))) 908) (resetImage m) (take 908 (drop imageAt (putPart settingsAt 908 marked part))) →
+      last ≡ cond (eqb (length (take 908 (drop imageAt (putPart settingsAt 908 marked part)))) 908) (resetImage m)
+      (take 908 (drop imageAt (putPart settingsAt 908 marked part))) →
       putPart imageAt 908 (putPart settingsAt 908 marked part) last ≡ recordBytes (opened m b p)
   unfolding recordBytes opened
   record-put marked part last h em ep el =
       let f = front-marks recordSize m b p free bytes first marked (omega arith) h e em in
       let g = front-reset recordSize settingsAt m (m ∷ b ∷ p ∷ free ∷ []) marked part (omega arith) f ep in
-      front-all recordSize _ _ (front-reset recordSize imageAt m ((m ∷ b ∷ p ∷ free ∷ []) ++ resetImage m) (putPart settingsAt 908 marked part) last (omega arith) g el)
+      front-all recordSize _ _
+      (front-reset recordSize imageAt m ((m ∷ b ∷ p ∷ free ∷ []) ++ resetImage m) (putPart settingsAt 908 marked part) last (omega arith) g el)
 
 -- ---- chips
 

@@ -82,13 +82,14 @@ module _ (f : Record → Sending) (bytes : List ℕ) (h : length bytes ≡ recor
     buffer-is new e = e ∙ ap (λ (x : Header). sendBuffer (held x) (f (held x)) buffer) eh ∙ rw (record-sized bytes h) refl
 
     -- the record that the call leaves, or nothing
-    sent : listBytes bytes (sendOf (recordIn bytes) (f (recordIn bytes)) (length buffer)) ≡ cond (isListed answer) (recordBytes (f (recordIn bytes) .host)) bytes
+    sent : listBytes bytes (sendOf (recordIn bytes) (f (recordIn bytes)) (length buffer)) ≡
+        cond (isListed answer) (recordBytes (f (recordIn bytes) .host)) bytes
     unfolding listBytes sendOf
     sent = rw answer-is (rw (sym answers) (sym (chosen (isListed answer) (f (recordIn bytes) .host) (recordIn bytes) bytes)))
 
 -- a Reset puts the reset values into the image's part of the bytes, and releases the lock
-pub reset-back : (bytes : List ℕ) (h : length bytes ≡ recordSize) (header : Header) (eh : header ≡ headerIn bytes) (buffer part new : List ℕ) (answer : ListAnswer) →
-    (ea : answer ≡ resetAnswer (recordOf header (settingsIn bytes) (imageIn bytes)) (length buffer)) →
+pub reset-back : (bytes : List ℕ) (h : length bytes ≡ recordSize) (header : Header) (eh : header ≡ headerIn bytes) (buffer part new : List ℕ)
+    (answer : ListAnswer) → (ea : answer ≡ resetAnswer (recordOf header (settingsIn bytes) (imageIn bytes)) (length buffer)) →
     part ≡ cond (isListed answer && eqb (length (imageIn bytes)) 908) (resetImage (header .member)) (imageIn bytes) →
     new ≡ cond (isListed answer) (set (putPart imageAt 908 bytes part) marksAt free) (putPart imageAt 908 bytes part) →
     new ≡ listBytes bytes (sendOf (recordIn bytes) (resetting (recordIn bytes)) (length buffer))

@@ -6,16 +6,18 @@ use mathlib.Core.Bool.{Bool, true, false, cond, false≢true}
 use mathlib.Core.List.{List}
 use Prim.Native.Nat.{ℕ, _+_, _-_, _*_, _≤_}
 use native.Mathlib.Omega.{arith}
-use lib.ListN.{length, getD}
+use borrow.Author.Tests.{eqb-true}
+use lib.ListN.{length, getD, set}
 use Rattle.map.specs.declared.refusals.Answer.{Answer}
+use Rattle.map.specs.declared.refusals.Answer as answers
 use Rattle.map.specs.declared.refusals.Answer.the-variants.{Accepted}
 use Rattle.map.specs.declared.refusals.Refusal.the-variants.{Unsound}
 use Rattle.map.specs.Refusals.{answerNumber, accepted}
 use Rattle.host.specs.declared.Record.{Record}
 use Rattle.host.specs.declared.Changed.{Changed}
 use Rattle.calls.specs.declared.Setting.{Setting}
-use Rattle.host.specs.Record.{openOf, settingOf, powerLostOf, lockOf}
-use Rattle.host.specs.SettingLaws.{Sets, setting-sets, power-refuses, lock-refuses}
+use Rattle.host.specs.Record.{locked, openOf, settingOf, powerLostOf, lockOf}
+use Rattle.host.specs.SettingLaws.{Sets, setting-sets, power-refuses, lock-locks, lock-refuses}
 use Rattle.update.specs.declared.ListAnswer.{ListAnswer}
 use Rattle.update.specs.declared.ListAnswer.the-variants.{Listed, Short, Refused}
 use Rattle.update.specs.declared.Sent.{Sent}
@@ -27,8 +29,8 @@ use Rattle.faults.specs.Faults.{answerNumbers, faultsAnswer, faultsResult}
 use Rattle.faults.specs.FaultLaws.{refuses}
 use Rattle.chip.specs.declared.Chip.{Chip}
 use Rattle.chip.specs.Chip.{atResetOf, feedOf}
-use Rattle.capi.specs.Capi.{recordIn, recordBytes, chipBytes, recordSize, recordSized, chipSized, whenSized, Outcome, settingNumber, settingBytes, settingOutcome, chipNumber, chipAfter, chipOutcome, listAnswer, listBytes, bufferAfter, valueAfter, nAfter, tAfter, storedAfter, ListOutcome, listOutcome, faultsAnswerBy, faultsOutcome}
-use Rattle.capi.specs.CapiLaws.{record-round, record-back, chip-back, record-sized, chip-sized, record-length, chip-length, zero-accepted, zero-listed, list-keeps, stored-keeps, bytes-keep}
+use Rattle.capi.specs.Capi.{marksAt, recordIn, recordBytes, chipBytes, recordSize, recordSized, chipSized, whenSized, Outcome, settingNumber, settingBytes, settingOutcome, chipNumber, chipAfter, chipOutcome, listAnswer, listBytes, bufferAfter, valueAfter, nAfter, tAfter, storedAfter, ListOutcome, listOutcome, faultsAnswerBy, faultsOutcome}
+use Rattle.capi.specs.CapiLaws.{record-round, marks-stored, record-back, chip-back, record-sized, chip-sized, record-length, chip-length, zero-accepted, zero-listed, list-keeps, stored-keeps, bytes-keep}
 use Rattle.capi.specs.Calls.{openCall, settingCall, powerLostCall, lockCall, sendCall, updateCall, updateAnswered, updateStores, faultsCall, chipAtResetCall, chipPowerLostCall, chipFeedCall}
 
 -- ---- Calls on values, as outcomes
@@ -158,16 +160,17 @@ module _ (c : Chip) (h : length (c .registers) ≡ 908) where
 
 -- ---- Opened
 
-module _ (m b p : ℕ) (bytes : List ℕ) where
-  sized-accepted : (sized : Bool) (answer : Answer) → accepted (whenSized sized answer) ≡ true → accepted answer ≡ true
-  unfolding whenSized
-  sized-accepted true answer e = e
-  sized-accepted false answer e = absurd (false≢true e)
+-- a call that answers 0 was lent bytes of the right size, and was accepted
+zero-sized : (sized : Bool) (answer : Answer) → answerNumber (whenSized sized answer) ≡ 0 → (sized ≡ true) × (accepted answer ≡ true)
+unfolding whenSized
+zero-sized true answer e = (refl, zero-accepted answer e)
+zero-sized false answer e = absurd (false≢true (zero-accepted (answers.the-variants.Refused Unsound) e))
 
+module _ (m b p : ℕ) (bytes : List ℕ) where
   -- lp586x_open that answers 0 was accepted,
   pub open-accepted : openCall bytes m b p .answer ≡ 0 → accepted (openOf m b p .answer) ≡ true
   unfolding settingNumber
-  open-accepted e = sized-accepted (recordSized bytes) (openOf m b p .answer) (zero-accepted (whenSized (recordSized bytes) (openOf m b p .answer)) e)
+  open-accepted e = zero-sized (recordSized bytes) (openOf m b p .answer) e .1
 
   -- and leaves the bytes of the record that Open gives back,
   pub open-bytes : openCall bytes m b p .answer ≡ 0 → openCall bytes m b p .bytes ≡ recordBytes (openOf m b p .host)
@@ -178,6 +181,18 @@ module _ (m b p : ℕ) (bytes : List ℕ) where
   pub at-reset-bytes : chipAtResetCall bytes m b p .answer ≡ 0 → chipAtResetCall bytes m b p .bytes ≡ chipBytes (atResetOf m b p .chip)
   unfolding chipNumber chipAfter
   at-reset-bytes e = rw (zero-accepted (whenSized (chipSized bytes) (atResetOf m b p .answer)) e) refl
+
+-- ---- Locked
+
+-- lp586x_lock that answers 0 "Changes record, of it the marks alone": one byte
+pub lock-stores : (bytes : List ℕ) → lockCall bytes .answer ≡ 0 → lockCall bytes .bytes ≡ set bytes marksAt locked
+unfolding settingNumber settingBytes recordSized lockOf
+lock-stores bytes z =
+    let t = zero-sized (recordSized bytes) (lockOf (recordIn bytes) .answer) z in
+    rw (zero-accepted (whenSized (recordSized bytes) (lockOf (recordIn bytes) .answer)) z)
+    (ap recordBytes (lock-locks (recordIn bytes) (t .1))
+    ∙ sym (marks-stored (recordIn bytes) locked)
+    ∙ ap (λ (l : List ℕ). set l marksAt locked) (record-round bytes (eqb-true (length bytes) recordSize (t .0))))
 
 -- ---- Calls that send
 

@@ -1,6 +1,6 @@
 -- What lp586x_transaction finds: of a list of good sizes each of its n transactions. Where it refuses, it stores nothing.
 -- Assumes nothing.
-use mathlib.Core.Path.{_≡_, refl, sym, ap, _∙_}
+use mathlib.Core.Path.{_≡_, refl}
 use mathlib.Core.Bool.{true}
 use mathlib.Core.List.{List, []}
 use Prim.Native.Nat.{ℕ, _+_, _≤_, _<_}
@@ -9,7 +9,7 @@ use borrow.Author.Tests.{lt-ltb}
 use lib.ListN.{length, getD, take, drop}
 use Rattle.burst.specs.declared.places.Place.{Place}
 use Rattle.burst.specs.declared.places.Place.the-variants.{At, BadSizes, NoIndex}
-use Rattle.burst.specs.Burst.{nOf, transactions, sizesGood, lengthAt, offsetAt, placeOf}
+use Rattle.burst.specs.Burst.{nOf, transactions, sizesGood, placeOf}
 use Rattle.burst.specs.PlaceLaws.{transaction-stands, placed}
 use Rattle.capi.specs.Capi.{placeNumbers, placeOutcome}
 use Rattle.capi.specs.Calls.{transactionCall}

@@ -1,4 +1,4 @@
-// Where the parts of a record and of a chip stand in the bytes that a C program keeps, and what Open puts there.
+// Where the parts of a record and of a chip stand in the bytes that a C program keeps; what Open puts there, and a call that changes the marks.
 ghost use mathlib.Core.Path.{_≡_};
 ghost use mathlib.Core.Bool.{cond};
 ghost use mathlib.Core.List.{_∷_};

@@ -2,7 +2,7 @@
 -- `starred`.
 -- Assumes nothing.
 use mathlib.Core.Path.{_≡_, refl, sym}
-use mathlib.Core.List.{List, [], _∷_}
+use mathlib.Core.List.{List, [], _∷_, map}
 use Prim.Native.Nat.{ℕ, _≤_}
 use native.Mathlib.Omega.{arith}
 use lib.ListN.{length, getD, set, replicate}
@@ -14,13 +14,13 @@ use Rattle.map.specs.Lists.{allFrom, tableFrom, table}
 use Rattle.map.specs.Images.{okByte, okAt, imageOk, resetImage}
 use Rattle.burst.specs.Burst.{byteAt, size16, nOf, lengthsFrom, lengths, cutFrom, transactions, headFirst, headSecond, transactionOf, listOf, encode}
 use Rattle.plan.specs.Plan.{scan, plan}
-use Rattle.plan.specs.Update.{updateFor}
+use Rattle.plan.specs.Update.{updateFor, writeOf}
 use Rattle.dots.specs.Dots.{wideOf, topLevel, putLevel}
 use Rattle.calls.specs.declared.Setting.{Setting}
 use Rattle.calls.specs.declared.Setting.the-variants.{Register, Lamp}
 use Rattle.calls.specs.declared.Request.the-variants.{Set, Update}
 use Rattle.host.specs.declared.Record.{Record}
-use Rattle.host.specs.Record.{headerOf, recordOf, soundOf, mayWrite, whenSound, opened, openHost, openOf, registerAnswer, whenDot, lampAnswer, argumentsAnswer, settingAnswer, putSetting, changedTo, settingOf, lampOf}
+use Rattle.host.specs.Record.{headerOf, recordOf, free, locked, isTrim, isLocked, lockKeeps, mayWrite, marksOk, soundOf, whenSound, opened, openHost, openOf, registerAnswer, whenDot, lampAnswer, argumentsAnswer, settingAnswer, putSetting, changedTo, settingOf, lampOf}
 use Rattle.host.specs.SoundLaws.{is-sound, open-sound}
 use Rattle.update.specs.Update.{listSize, over, Sending, sendAnswer, sendBuffer, writesOf, resetting, resetBuffer, clearing, clearBuffer}
 use Rattle.update.specs.SendLaws.{send-listed}
@@ -51,7 +51,11 @@ benchTransactions = (0x00 ∷ 0x20 ∷ 0x01 ∷ []) ∷ (0x00 ∷ 0x60 ∷ 0x58 
 
 -- an LP5860 that is on, of which only the registers 202h and a differ
 abbrev differing : ℕ → Record
-differing a = recordOf (headerOf 0 0 0) (set (set (set (resetImage 0) 0x000 0x01) 0x202 0x11) a 0x22) (set (resetImage 0) 0x000 0x01)
+differing a = recordOf (headerOf 0 0 0 free) (set (set (set (resetImage 0) 0x000 0x01) 0x202 0x11) a 0x22) (set (resetImage 0) 0x000 0x01)
+
+-- Q-5: one with these marks that is on, of which only 002h and 005h differ, on either side of the factory-set registers
+abbrev beside : ℕ → Record
+beside marks = recordOf (headerOf 0 0 0 marks) (set (set (set (resetImage 0) 0x000 0x01) 0x002 0x02) 0x005 0x80) (set (resetImage 0) 0x000 0x01)
 
 -- the settings of a new LP5860 with v at 001h and a level for the dot at line l, sink s
 abbrev lit : ℕ → ℕ → ℕ → ℕ → List ℕ
@@ -83,6 +87,10 @@ pub record Starred : Type 0 where
   -- "Only 202h and 206h: two writes."
   pub two-writes : writesOf (differing 0x206)
       ≡ record { start = 0x202; bytes = 0x11 ∷ [] } ∷ record { start = 0x206; bytes = 0x22 ∷ [] } ∷ []
+  -- Q-5: one write of 002h to 005h with the factory-set registers as they are, and
+  pub bridge : map writeOf (writesOf (beside free)) ≡ record { start = 0x002; len = 4 } ∷ []
+  -- "no bridge may run across a locked address": two writes, of as many bus bytes together
+  pub no-bridge : writesOf (beside locked) ≡ record { start = 0x002; bytes = 0x02 ∷ [] } ∷ record { start = 0x005; bytes = 0x80 ∷ [] } ∷ []
   -- "Line 4, sink 1: 16 bits at 292h, 293h."
   pub low-at-292 : getD (lit 0x5E 4 1 0x1234) 0x292 0 ≡ 0x34
   pub high-at-293 : getD (lit 0x5E 4 1 0x1234) 0x293 0 ≡ 0x12
@@ -97,11 +105,11 @@ pub record Starred : Type 0 where
 
 -- (the two that go through every call stand apart, since each takes some memory to compute)
 bench-i2c : updated 0 ≡ benchList
-unfolding openAnswer opens linesOf columnsOf hasColumn dotIn isDot numberIn kindOf dataMode isWide firstMasks firstMask noSink groupMask switchMask groupReserved switchReserved currentReserved pwmReserved reservedAs reservedOf writableOf firstReset switchBytesOf switchReset currentReset resetAs resetOf allFrom tableFrom table okByte okAt imageOk resetImage headFirst headSecond transactionOf listOf encode scan plan updateFor wideOf topLevel putLevel soundOf mayWrite whenSound opened openHost openOf registerAnswer whenDot lampAnswer argumentsAnswer settingAnswer putSetting changedTo settingOf writesOf sendAnswer sendBuffer
+unfolding openAnswer opens linesOf columnsOf hasColumn dotIn isDot numberIn kindOf dataMode isWide firstMasks firstMask noSink groupMask switchMask groupReserved switchReserved currentReserved pwmReserved reservedAs reservedOf writableOf firstReset switchBytesOf switchReset currentReset resetAs resetOf allFrom tableFrom table okByte okAt imageOk resetImage headFirst headSecond transactionOf listOf encode scan plan updateFor wideOf topLevel putLevel soundOf marksOk mayWrite lockKeeps isTrim isLocked whenSound opened openHost openOf registerAnswer whenDot lampAnswer argumentsAnswer settingAnswer putSetting changedTo settingOf writesOf sendAnswer sendBuffer
 bench-i2c = refl
 
 bench-spi : transactions (updated 1) ≡ benchTransactions
-unfolding openAnswer opens linesOf columnsOf hasColumn dotIn isDot numberIn kindOf dataMode isWide firstMasks firstMask noSink groupMask switchMask groupReserved switchReserved currentReserved pwmReserved reservedAs reservedOf writableOf firstReset switchBytesOf switchReset currentReset resetAs resetOf allFrom tableFrom table okByte okAt imageOk resetImage byteAt size16 nOf lengthsFrom lengths cutFrom transactions headFirst headSecond transactionOf listOf encode scan plan updateFor wideOf topLevel putLevel soundOf mayWrite whenSound opened openHost openOf registerAnswer whenDot lampAnswer argumentsAnswer settingAnswer putSetting changedTo settingOf writesOf sendAnswer sendBuffer
+unfolding openAnswer opens linesOf columnsOf hasColumn dotIn isDot numberIn kindOf dataMode isWide firstMasks firstMask noSink groupMask switchMask groupReserved switchReserved currentReserved pwmReserved reservedAs reservedOf writableOf firstReset switchBytesOf switchReset currentReset resetAs resetOf allFrom tableFrom table okByte okAt imageOk resetImage byteAt size16 nOf lengthsFrom lengths cutFrom transactions headFirst headSecond transactionOf listOf encode scan plan updateFor wideOf topLevel putLevel soundOf marksOk mayWrite lockKeeps isTrim isLocked whenSound opened openHost openOf registerAnswer whenDot lampAnswer argumentsAnswer settingAnswer putSetting changedTo settingOf writesOf sendAnswer sendBuffer
 bench-spi = refl
 
 -- a new record is sound, so that what it sends is listed where the buffer has room
@@ -119,7 +127,7 @@ fixed = record {
 }
 
 pub starred : Starred
-unfolding openAnswer opens linesOf columnsOf hasColumn dotIn isDot numberIn kindOf addressOf shiftOf placeAs placeOf lineNumber dataMode isWide firstMasks firstMask noSink groupMask switchMask groupReserved switchReserved currentReserved pwmReserved reservedAs reservedOf writableOf firstReset switchBytesOf switchReset currentReset resetAs resetOf allFrom tableFrom table okByte okAt imageOk resetImage scan plan updateFor wideOf topLevel putLevel soundOf mayWrite whenSound opened openHost openOf whenDot lampAnswer argumentsAnswer settingAnswer changedTo settingOf writesOf
+unfolding openAnswer opens linesOf columnsOf hasColumn dotIn isDot numberIn kindOf addressOf shiftOf placeAs placeOf lineNumber dataMode isWide firstMasks firstMask noSink groupMask switchMask groupReserved switchReserved currentReserved pwmReserved reservedAs reservedOf writableOf firstReset switchBytesOf switchReset currentReset resetAs resetOf allFrom tableFrom table okByte okAt imageOk resetImage scan plan updateFor wideOf topLevel putLevel soundOf marksOk mayWrite lockKeeps isTrim isLocked whenSound opened openHost openOf whenDot lampAnswer argumentsAnswer settingAnswer changedTo settingOf writesOf
 starred = record {
   lines-of-5E = refl;
   mode-of-5E = refl;
@@ -127,6 +135,8 @@ starred = record {
   spi-transactions = bench-spi;
   one-write = refl;
   two-writes = refl;
+  bridge = refl;
+  no-bridge = refl;
   low-at-292 = refl;
   high-at-293 = refl;
   byte-at-292 = refl;

@@ -153,6 +153,11 @@ pub setting-told : (r : Record) → soundOf r ≡ true → (q : Setting) (lent :
 unfolding answersLocked settingOf changedTo settingNumbers settingAnswer whenSound numbersOf
 setting-told r e q lent = rw e (setting-answers (r .header) (r .settings) q lent .told)
 
+-- "for an unlocked record the old reading holds": of a setting of a sound record that is not locked the ledger is told no 17
+pub told-free : (r : Record) → soundOf r ≡ true → isLocked (r .header) ≡ false → (q : Setting) (lent : List ℕ) →
+    answersLocked (answers.the-variants.Setting (settingOf r q lent .numbers)) ≡ false
+told-free r s e q lent = setting-told r s q lent ∙ free-out (r .header) e q
+
 -- ---- the ledger's bytes are always an image of its member
 
 pub entry-image : (m : ℕ) (s : List ℕ) → Image m s → (request : Request) (lent : List ℕ) → Image m (entry m s request lent)

@@ -14,7 +14,7 @@ use Rattle.map.specs.Images.{okByte, resetImage}
 use Rattle.host.specs.declared.Record.{Record}
 use Rattle.dots.specs.Dots.{wideOf, topLevel, putLevel, putBits, putField}
 use Rattle.calls.specs.declared.Setting.{Setting}
-use Rattle.host.specs.Record.{headerOf, recordOf, isTrim, isLocked, free, lockKeeps, soundOf, whenSound, opened, openHost, openOf, soundAnswer, powerLostOf}
+use Rattle.host.specs.Record.{headerOf, recordOf, isTrim, isLocked, free, locked, lockKeeps, sameTrims, marksOk, soundOf, whenSound, opened, openHost, openOf, soundAnswer, powerLostOf, isOn, isLockable, lockAnswer, lockOf}
 use Rattle.host.specs.Record.{registerAnswer, whenDot, lampAnswer, fieldAnswer, argumentsAnswer, settingAnswer, putSetting, changedTo, settingOf}
 use Rattle.host.specs.Record.{sceneWord, sceneDot, sceneLevel, sceneSized, sceneHasDot, sceneFits, sceneAnswer, putScene}
 use Rattle.host.specs.Record.{registerOf, lampOf, groupOf, switchOf, sceneOf}
@@ -46,12 +46,16 @@ module _ (r : Record) (unsound : soundOf r ≡ false) where
   unfolding powerLostOf soundAnswer whenSound
   power-lost-14 = rw unsound refl
 
+  lock-14 : answerNumber (lockOf r .answer) ≡ 14
+  unfolding lockOf lockAnswer whenSound
+  lock-14 = rw unsound refl
+
 -- the others of a sound LP5860 with levels of 8 bits, in "the order its refusals stand here"
 module _ (r : Record) (sound : soundOf r ≡ true) (member : r .header .member ≡ 0) (top : topLevel (r .settings) ≡ 255) where
   -- "4: not writable, above 38Bh included. 5: a reserved bit differs from its reset value."
   register-answers : (answerNumber (registerOf r 0x0AA 0xFF .answer) ≡ 4) × (answerNumber (registerOf r 0x38C 0x00 .answer) ≡ 4)
       × (answerNumber (registerOf r 0x000 0x02 .answer) ≡ 5) × (answerNumber (registerOf r 0x000 0x01 .answer) ≡ 0) × (answerNumber (registerOf r 0x38B 0xFF .answer) ≡ 0)
-  unfolding settingOf changedTo settingAnswer argumentsAnswer putSetting registerAnswer lockKeeps isTrim whenSound okByte writableOf reservedOf reservedAs kindOf
+  unfolding settingOf changedTo settingAnswer argumentsAnswer putSetting registerAnswer lockKeeps isTrim isLocked whenSound okByte writableOf reservedOf reservedAs kindOf
       linesOf columnsOf hasColumn dotIn numberIn firstMasks firstMask pwmReserved resetOf resetAs firstReset
   register-answers = rw (sound, member) (refl, refl, refl, refl, refl)
 
@@ -91,6 +95,63 @@ module _ (r : Record) (sound : soundOf r ≡ true) (member : r .header .member �
   power-lost : (answerNumber (powerLostOf r .answer) ≡ 0) × (powerLostOf r .host .image ≡ resetImage 0) × (powerLostOf r .host .settings ≡ r .settings)
   unfolding powerLostOf soundAnswer whenSound
   power-lost = rw (sound, member) (refl, refl, refl)
+
+-- ---- The lock
+
+-- document 02, Q-5: "a lock over these two", 003h and 004h
+trims : map isTrim (0x002 ∷ 0x003 ∷ 0x004 ∷ 0x005 ∷ []) ≡ false ∷ true ∷ true ∷ false ∷ []
+unfolding isTrim
+trims = refl
+
+-- bit 0 of the marks
+lock-bit : map (λ (marks : ℕ). isLocked (headerOf 0 0 0 marks)) (free ∷ locked ∷ []) ≡ false ∷ true ∷ []
+unfolding isLocked
+lock-bit = refl
+
+-- the first five bytes of an image that is on, with 07h at an address
+other : ℕ → List ℕ
+other a = set (0x01 ∷ 0x5E ∷ 0x00 ∷ 0x57 ∷ 0x10 ∷ []) a 0x07
+
+-- "a locked record whose images differ at these two is unsound", a free one is not; nor are there other marks
+marks-tested : map (λ (a : ℕ). marksOk (recordOf (headerOf 0 0 0 locked) (other 0) (other a))) (0x000 ∷ 0x002 ∷ 0x003 ∷ 0x004 ∷ []) ≡ true ∷ true ∷ false ∷ false ∷ []
+unfolding other marksOk isLocked sameTrims
+marks-tested = refl
+
+marks-free : map (λ (marks : ℕ). marksOk (recordOf (headerOf 0 0 0 marks) (other 3) (other 4))) (free ∷ locked ∷ 2 ∷ 255 ∷ []) ≡ true ∷ false ∷ false ∷ false ∷ []
+unfolding other marksOk isLocked sameTrims
+marks-free = refl
+
+-- "18, locking a locked record, or one whose chip image is off or differs from the settings at 003h or 004h."
+lockable : (isLockable (recordOf (headerOf 0 0 0 free) (other 1) (other 2)) ≡ true) × (isLockable (recordOf (headerOf 0 0 0 locked) (other 1) (other 2)) ≡ false)
+    × (isLockable (recordOf (headerOf 0 0 0 free) (other 1) (set (other 1) 0x000 0x00)) ≡ false)
+    × (isLockable (recordOf (headerOf 0 0 0 free) (set (other 1) 0x000 0x00) (other 1)) ≡ true)
+    × (isLockable (recordOf (headerOf 0 0 0 free) (other 3) (other 1)) ≡ false) × (isLockable (recordOf (headerOf 0 0 0 free) (other 1) (other 4)) ≡ false)
+unfolding other isLockable isLocked isOn sameTrims
+lockable = (refl, refl, refl, refl, refl, refl)
+
+module _ (r : Record) (sound : soundOf r ≡ true) where
+  -- "Answers: .. 18"
+  lock-answers : (isLockable r ≡ true → answerNumber (lockOf r .answer) ≡ 0) × (isLockable r ≡ false → answerNumber (lockOf r .answer) ≡ 18)
+  unfolding lockOf lockAnswer whenSound
+  lock-answers = (λ e. rw (sound, e) refl, λ e. rw (sound, e) refl)
+
+  -- a sound LP5861T, whose 003h and 004h have reserved bits: "17, Register on a locked address, after 4 and before 5"
+  module _ (member : r .header .member ≡ 1) where
+    seventeen : isLocked (r .header) ≡ true → (answerNumber (registerOf r 0x003 0x57 .answer) ≡ 17) × (answerNumber (registerOf r 0x004 0x01 .answer) ≡ 17)
+        × (answerNumber (registerOf r 0x0A9 0xFF .answer) ≡ 4) × (answerNumber (registerOf r 0x002 0xFF .answer) ≡ 5)
+    unfolding settingOf changedTo settingAnswer argumentsAnswer putSetting registerAnswer lockKeeps isTrim isLocked whenSound okByte writableOf reservedOf reservedAs kindOf
+        linesOf columnsOf hasColumn dotIn numberIn firstMasks firstMask pwmReserved resetOf resetAs firstReset
+    seventeen e = rw (sound, member, e) (refl, refl, refl, refl)
+
+    unlocked : isLocked (r .header) ≡ false → (answerNumber (registerOf r 0x003 0x57 .answer) ≡ 5) × (answerNumber (registerOf r 0x003 0x54 .answer) ≡ 0)
+    unfolding settingOf changedTo settingAnswer argumentsAnswer putSetting registerAnswer lockKeeps isTrim isLocked whenSound okByte writableOf reservedOf reservedAs kindOf
+        linesOf columnsOf hasColumn dotIn numberIn firstMasks firstMask pwmReserved resetOf resetAs firstReset
+    unlocked e = rw (sound, member, e) (refl, refl)
+
+  -- "Reset and Power lost release it": a loss of power leaves no mark, whatever there was
+  released : powerLostOf r .host .header .marks ≡ free
+  unfolding powerLostOf soundAnswer whenSound
+  released = rw sound refl
 
 -- ---- Scenes
 

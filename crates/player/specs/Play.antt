@@ -26,7 +26,7 @@ use Rattle.script.specs.Words.{wordAt}
 use Rattle.script.specs.Bytes.{bytesOf}
 use Rattle.script.specs.Lines.{withoutCr, isSilent, lineOf}
 use Rattle.replies.specs.declared.Reply.{Reply}
-use Rattle.replies.specs.declared.Reply.the-variants.{Bad, Numbers, Lent, Bytes, Same, Differs}
+use Rattle.replies.specs.declared.Reply.the-variants.{Bad, Numbers, Lent, Bytes, Same, Differs, Free, Locked}
 use Rattle.replies.specs.Replies.{replyLine, echoLine}
 use Rattle.listing.specs.Show.{listText}
 use Rattle.pictures.specs.Pictures.{lampsText, faultsText, differencesText}
@@ -96,6 +96,7 @@ writesList (commands.Poke part a v) = false
 writesList (commands.Header e v) = false
 writesList commands.Check = false
 writesList commands.Pending = false
+writesList commands.Marks = false
 
 -- the list that an answer of 0, n and t tells of has 4 + 2n + t bytes; n and t have two bytes each
 unfoldable pub sizeBy : numbers.Numbers → ℕ
@@ -109,6 +110,8 @@ listedSize (Lent n) = sizeBy n
 listedSize Bytes = 0
 listedSize Same = 0
 listedSize (Differs a) = 0
+listedSize Free = 0
+listedSize Locked = 0
 
 -- "A refused call, `feed`, `faults`, `power` and `open` leave it as it is": the length of the list to keep, 0 where there is none
 unfoldable pub keptSize : Command → Reply → ℕ

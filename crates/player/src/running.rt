@@ -39,6 +39,7 @@ fn writes_list(command: Command) -> bool
         Command::Header(_, _) => false,
         Command::Check => false,
         Command::Pending => false,
+        Command::Marks => false,
     }
 }
 
@@ -68,6 +69,8 @@ fn listed_size(reply: Reply) -> usize
         Reply::Bytes => 0,
         Reply::Same => 0,
         Reply::Differs(_) => 0,
+        Reply::Free => 0,
+        Reply::Locked => 0,
     }
 }
 

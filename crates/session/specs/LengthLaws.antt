@@ -90,8 +90,8 @@ update-brief r e = record {
 }
 
 -- a command has two bytes at most
-command-brief : (a : ℕ) (values image : List ℕ) → length values ≤ 2 → Brief (command a values image)
-command-brief a values image h = record { writes = omega arith; bytes = omega arith; short = alone-most (refusalNumber BufferShort) (omega arith) }
+command-brief : (a : ℕ) (values : List ℕ) (after : Record) → length values ≤ 2 → Brief (command a values after)
+command-brief a values after h = record { writes = omega arith; bytes = omega arith; short = alone-most (refusalNumber BufferShort) (omega arith) }
 
 -- an update's answer has three digits more, of what it stored
 update-most : (w : World) (lent : List ℕ) → length (numbersText (numbersIn (callNumbers (stepOf w Update lent .answer)))) ≤ 13
@@ -111,11 +111,11 @@ update-most w lent = held-most _ (go (soundOf (w .host)) refl (leb (listSize (wr
     go true e false = update-brief (w .host) e .short
     go false e c = alone-most (refusalNumber Unsound) (omega arith)
 
-command-most : (w : World) (a : ℕ) (values image lent : List ℕ) → length values ≤ 2 →
-    length (numbersText (numbersIn (callNumbers (sendStep w (command a values image) lent .answer)))) ≤ 13
+command-most : (w : World) (a : ℕ) (values : List ℕ) (after : Record) (lent : List ℕ) → length values ≤ 2 →
+    length (numbersText (numbersIn (callNumbers (sendStep w (command a values after) lent .answer)))) ≤ 13
 unfolding sendOf
-command-most w a values image lent h =
-    held-most _ (send-most (w .host) (command a values image) (length lent) (λ e. command-brief a values image h))
+command-most w a values after lent h =
+    held-most _ (send-most (w .host) (command a values after) (length lent) (λ e. command-brief a values after h))
 
 faults-most : (answer : faults.Answer) → length (numbersText (answerNumbers answer)) ≤ 13
 unfolding answerNumbers

@@ -52,7 +52,8 @@ returns-2 c =
     let marked = c .before .before .before in
     let tested = marked .before .before in
     let read = tested .before .before .before .before in
-    lock-done _ (read .before .before .if1 .left) _ (read .header .ensures) _ _ _ (tested .lock-answer .ensures) (c .answer-number .ensures) (marked .mark .ensures)
+    lock-done _ (read .before .before .if1 .left) _ (read .header .ensures) _ _ _ (tested .lock-answer .ensures)
+    (c .answer-number .ensures) (marked .mark .ensures)
 
 pub lp586x-lock-spec : {M : Type 1} → statement M
 lp586x-lock-spec =

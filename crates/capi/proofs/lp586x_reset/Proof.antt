@@ -1,5 +1,11 @@
 -- `capi::lp586x_reset` meets its contract.
 -- Assumes nothing.
+use mathlib.Core.Path.{refl}
+use native.Mathlib.Omega.{arith}
+use Rattle.capi.specs.CapiLaws.{record-unsized}
+use Rattle.capi.specs.Capi.{listAnswer, listBytes, bufferAfter, valueAfter}
+use Rattle.update.specs.Update.{resetting}
+use Rattle.capi.proofs.Listed.{command-within, answer-is, buffer-is, reset-back}
 use borrow.Author.Needs.{needs}
 use Rattle.capi.proofs.lp586x_reset.Statement.{statement}
 use Rattle.capi.proofs.lp586x_reset.Tie as tie
@@ -51,7 +57,9 @@ release-requires : tie.Need-release-requires
 release-requires c κs = search needs
 
 count-requires : tie.Need-count-requires
-count-requires c κs = command-within _ _ _ _ _ (omega arith) _ (c .before .before .before .before .before .before .before .before .before .before .before .before .reset-parts .ensures .0)
+count-requires c κs =
+    let kept = c .before .before .before .before .before .before .before .before in
+    command-within _ _ _ _ _ (omega arith) _ (kept .before .before .before .before .reset-parts .ensures .0)
 
 same-length : tie.Need-same-length
 same-length c = search needs

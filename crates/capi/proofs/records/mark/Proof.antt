@@ -1,7 +1,7 @@
 -- `capi::records::mark` meets its contract.
 -- Assumes nothing.
-use Rattle.map.specs.Refusals.{accepted}
 use mathlib.Core.Path.{ap, _∙_}
+use Rattle.map.specs.Refusals.{accepted}
 use borrow.Author.Needs.{needs}
 use Rattle.capi.proofs.records.mark.Statement.{statement}
 use Rattle.capi.proofs.records.mark.Tie as tie

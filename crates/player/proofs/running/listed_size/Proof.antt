@@ -27,6 +27,12 @@ enum-told-4 c = search needs
 enum-told-5 : tie.Need-enum-told-5
 enum-told-5 c = search needs
 
+enum-told-6 : tie.Need-enum-told-6
+enum-told-6 c = search needs
+
+enum-told-7 : tie.Need-enum-told-7
+enum-told-7 c = search needs
+
 returns : tie.Need-returns
 unfolding listedSize
 returns c = rw (c .enum-told .given .1) refl
@@ -51,6 +57,14 @@ returns-6 : tie.Need-returns-6
 unfolding listedSize
 returns-6 c = rw (c .enum-told5 .given .1) refl
 
+returns-7 : tie.Need-returns-7
+unfolding listedSize
+returns-7 c = rw (c .enum-told6 .given .1) refl
+
+returns-8 : tie.Need-returns-8
+unfolding listedSize
+returns-8 c = rw (c .enum-told7 .given .1) refl
+
 pub listed-size-spec : {M : Type 1} → statement M
 listed-size-spec =
     tie.close
@@ -62,9 +76,13 @@ listed-size-spec =
     enum-told-3
     enum-told-4
     enum-told-5
+    enum-told-6
+    enum-told-7
     returns
     returns-2
     returns-3
     returns-4
     returns-5
-    returns-6)
+    returns-6
+    returns-7
+    returns-8)

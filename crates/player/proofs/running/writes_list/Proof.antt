@@ -42,6 +42,9 @@ enum-told-9 c = search needs
 enum-told-10 : tie.Need-enum-told-10
 enum-told-10 c = search needs
 
+enum-told-11 : tie.Need-enum-told-11
+enum-told-11 c = search needs
+
 returns : tie.Need-returns
 unfolding writesList
 returns c = rw (c .enum-told .given .1) refl
@@ -86,6 +89,10 @@ returns-11 : tie.Need-returns-11
 unfolding writesList
 returns-11 c = rw (c .enum-told10 .given .1) refl
 
+returns-12 : tie.Need-returns-12
+unfolding writesList
+returns-12 c = rw (c .enum-told11 .given .1) refl
+
 pub writes-list-spec : {M : Type 1} → statement M
 writes-list-spec =
     tie.close
@@ -102,6 +109,7 @@ writes-list-spec =
     enum-told-8
     enum-told-9
     enum-told-10
+    enum-told-11
     returns
     returns-2
     returns-3
@@ -112,4 +120,5 @@ writes-list-spec =
     returns-8
     returns-9
     returns-10
-    returns-11)
+    returns-11
+    returns-12)
