@@ -8,11 +8,11 @@ use lib.ListN.{length}
 use lib.Seq.{length-take-le}
 use Rattle.history.specs.Step.{listIn}
 use Rattle.capi.specs.Capi.{Outcome, ListOutcome}
-use Rattle.capi.specs.Calls.{settingCall, powerLostCall, updateCall, updateStores, updateNeeded, resetCall, chipPowerLostCall, chipFeedCall}
+use Rattle.capi.specs.Calls.{settingCall, powerLostCall, lockCall, updateCall, updateStores, updateNeeded, resetCall, chipPowerLostCall, chipFeedCall}
 use Rattle.capi.specs.CallLaws.{send-inside}
 use Rattle.update.specs.Update.{updating, resetting}
 use Rattle.calls.specs.declared.Request.{Request}
-use Rattle.calls.specs.declared.Request.the-variants.{Set, Reset, PowerLost, Update}
+use Rattle.calls.specs.declared.Request.the-variants.{Set, Reset, PowerLost, Update, Lock}
 use Rattle.calls.specs.declared.Setting.{Setting}
 use Rattle.panel.specs.PanelStep.{Panel, panelOf, stepped, chipFed, panelStep}
 
@@ -69,6 +69,9 @@ module _ (w : Panel) (request : Request) (lent : List ℕ) (n t stored needed : 
   pub power-lost-step : (answer : ℕ) (bytes chip : List ℕ) → request ≡ PowerLost → Leaves (powerLostCall (w .host)) answer bytes →
       chip ≡ chipPowerLostCall (w .chip) .bytes → Steps answer bytes chip lent n t stored needed
   power-lost-step answer bytes chip e h k = rw (e, h .0, h .1, k) refl
+
+  pub lock-step : (answer : ℕ) (bytes : List ℕ) → request ≡ Lock → Leaves (lockCall (w .host)) answer bytes → Steps answer bytes (w .chip) lent n t stored needed
+  lock-step answer bytes e h = rw (e, h .0, h .1) refl
 
   pub reset-step : (answer k u : ℕ) (bytes chip buffer : List ℕ) → request ≡ Reset → LeavesList (resetCall (w .host) lent n t) answer bytes buffer k u →
       chip ≡ chipFed answer k u buffer (w .chip) → Steps answer bytes chip buffer k u stored needed

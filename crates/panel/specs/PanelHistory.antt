@@ -7,7 +7,10 @@ use mathlib.Core.Path.{_≡_}
 use mathlib.Core.Bool.{true}
 use mathlib.Core.List.{List, [], _∷_, _++_}
 use Prim.Native.Nat.{ℕ, _≤_}
+use lib.Dec.{eqb}
 use lib.ListN.{drop}
+use Rattle.map.specs.declared.refusals.Refusal.the-variants.{Locked}
+use Rattle.map.specs.Refusals.{refusalNumber}
 use Rattle.map.specs.Images.{resetImage}
 use Rattle.burst.specs.Burst.{nOf, tOf, transactions}
 use Rattle.calls.specs.declared.Request.{Request}
@@ -55,9 +58,12 @@ panelAfter m b p memory calls = panelRun (panelStart m b p memory) calls
 abbrev pub eventOf : PanelCall → Event
 eventOf c = call (record { request = c .request; lent = c .lent })
 
--- What the ledger is told of a call on the panel w: "all their arguments but the record, and never an answer."
+-- What the ledger is told of a call on the panel w: "all their arguments but the record", and of its answer no more than whether it is 17
+-- (Q-5 of document 02).
 abbrev pub panelTell : Panel → PanelCall → Told
-panelTell w c = toldOf (c .request) (c .lent)
+panelTell w c =
+    toldOf (c .request) (c .lent)
+    (eqb (panelStep w (c .request) (c .lent) (c .n) (c .t) (c .stored) (c .needed) .answer) (refusalNumber Locked))
 
 -- "the calls in order": of each next one on the panel that the last one left
 abbrev pub panelTold : Panel → List PanelCall → List Told

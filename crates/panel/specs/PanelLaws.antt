@@ -2,16 +2,18 @@
 -- calls. It also answers the number of that call, and leaves the lent bytes as that call does.
 -- Assumes nothing.
 use mathlib.Core.Path.{_≡_, refl, sym, ap, ap₂, _∙_}
-use mathlib.Core.Bool.{true, false≢true}
+use mathlib.Core.Bool.{Bool, true, false≢true}
 use mathlib.Core.List.{List, [], _∷_, map}
 use Prim.Native.Nat.{ℕ}
 use borrow.Author.Tests.{ne-eqb}
+use lib.Dec.{eqb}
 use lib.ListN.{length}
-use Rattle.map.specs.Refusals.{numbersOf, opens}
+use Rattle.map.specs.declared.refusals.Refusal.the-variants.{Locked}
+use Rattle.map.specs.Refusals.{refusalNumber, numbersOf, opens}
 use Rattle.calls.specs.declared.Request.{Request}
-use Rattle.calls.specs.declared.Request.the-variants.{Set, Reset, PowerLost, Update}
+use Rattle.calls.specs.declared.Request.the-variants.{Set, Reset, PowerLost, Update, Lock}
 use Rattle.host.specs.declared.Record.{Record}
-use Rattle.host.specs.Record.{settingNumbers, changedTo, settingOf, powerLostOf}
+use Rattle.host.specs.Record.{settingNumbers, changedTo, settingOf, powerLostOf, lockOf}
 use Rattle.update.specs.declared.ListAnswer.{ListAnswer}
 use Rattle.update.specs.declared.ListAnswer.the-variants.{Listed, Short, Refused}
 use Rattle.update.specs.Update.{listNumber, Sending, sendOf, sendBuffer, updating, updateOf, resetting}
@@ -19,15 +21,15 @@ use Rattle.update.specs.StoredLaws.{update-number}
 use Rattle.chip.specs.Chip.{feedOf}
 use Rattle.history.specs.declared.World.{World}
 use Rattle.history.specs.Ledger.{Told, toldOf, entries}
-use Rattle.history.specs.Step.{callNumbers, listIn, fedBy, sendStep, stepOf}
+use Rattle.history.specs.Step.{callNumbers, answersLocked, listIn, fedBy, sendStep, stepOf}
 use Rattle.history.specs.History.{run, told}
 use Rattle.history.specs.WorldLaws.{Holds, event-holds}
 use Rattle.capi.specs.Capi.{recordBytes, chipBytes, valueAfter, nAfter, tAfter, Outcome, ListOutcome}
 use Rattle.capi.specs.Calls.{sendCall, updateStores, updateNeeded, chipFeedCall}
 use Rattle.capi.specs.CapiLaws.{zero-listed}
-use Rattle.capi.specs.CallLaws.{listOutcomeOf, setting-of-call, power-lost-call, send-call, feed-call, chip-power-lost-call}
+use Rattle.capi.specs.CallLaws.{listOutcomeOf, setting-of-call, power-lost-call, lock-call, send-call, feed-call, chip-power-lost-call}
 use Rattle.panel.specs.PanelStep.{Panel, panelOf, chipFed, panelList, panelStep}
-use Rattle.panel.specs.PanelHistory.{PanelCall, panelRun, panelTold, eventOf}
+use Rattle.panel.specs.PanelHistory.{PanelCall, panelRun, panelTell, panelTold, eventOf}
 
 -- the bytes of a world
 abbrev pub bytesOf : World → Panel
@@ -76,17 +78,19 @@ module _ (w : World) (whole : Whole w) (lent : List ℕ) (n t stored needed : �
       ap₂ (λ (x y : Outcome). panelOf (x .bytes) (y .bytes)) (power-lost-call r (whole .settings) (whole .image))
       (chip-power-lost-call (w .chip) (whole .registers))
   step-bytes Update = send-bytes updating (updateStores (recordBytes r) lent stored) (updateNeeded (recordBytes r) lent needed)
+  step-bytes Lock = ap (λ (z : Outcome). panelOf (z .bytes) chip) (lock-call r (whole .settings) (whole .image))
 
   -- it answers the number of the call by value
   pub step-answers : (request : Request) →
       panelStep (bytesOf w) request lent n t stored needed .answer ≡ callNumbers (stepOf w request lent .answer) .number
-  unfolding settingOf changedTo settingNumbers powerLostOf numbersOf
+  unfolding settingOf changedTo settingNumbers powerLostOf lockOf numbersOf
   step-answers (Set q) = ap (λ (x : Outcome). x .answer) (setting-of-call r (whole .settings) (whole .image) q lent)
   step-answers Reset = ap (λ (x : ListOutcome). x .answer) (sent resetting)
   step-answers PowerLost = ap (λ (x : Outcome). x .answer) (power-lost-call r (whole .settings) (whole .image))
   step-answers Update =
       ap (λ (x : ListOutcome). x .answer) (sent updating)
       ∙ sym (update-number (updateOf r (length lent) .answer) (updateOf r (length lent) .stored))
+  step-answers Lock = ap (λ (x : Outcome). x .answer) (lock-call r (whole .settings) (whole .image))
 
   -- and leaves the lent bytes as that call does
   pub step-lent : (request : Request) → panelStep (bytesOf w) request lent n t stored needed .lent ≡ stepOf w request lent .lent
@@ -94,6 +98,13 @@ module _ (w : World) (whole : Whole w) (lent : List ℕ) (n t stored needed : �
   step-lent Reset = ap (λ (x : ListOutcome). x .buffer) (sent resetting)
   step-lent PowerLost = refl
   step-lent Update = ap (λ (x : ListOutcome). x .buffer) (sent updating)
+  step-lent Lock = refl
+
+  -- so the ledger is told the same of it
+  step-told : (request : Request) →
+      eqb (panelStep (bytesOf w) request lent n t stored needed .answer) (refusalNumber Locked) ≡ answersLocked (stepOf w request lent .answer)
+  unfolding answersLocked
+  step-told request = ap (λ (k : ℕ). eqb k (refusalNumber Locked)) (step-answers request)
 
 -- ---- any list of calls
 
@@ -116,6 +127,7 @@ module _ (m b p : ℕ) (o : opens m b p ≡ true) where
   pub run-told : (calls : List PanelCall) (s : List ℕ) (w : World) → Holds m b p s w → panelTold (bytesOf w) calls ≡ told w (map eventOf calls)
   run-told [] s w h = refl
   run-told (c ∷ cs) s w h =
-      ap (λ (x : Panel). toldOf (c .request) (c .lent) ∷ panelTold x cs) (step-bytes w (whole s w h) (c .lent) (c .n) (c .t) (c .stored) (c .needed) (c .request))
-      ∙ ap (λ (l : List Told). toldOf (c .request) (c .lent) ∷ l)
+      ap (λ (x : Panel). panelTell (bytesOf w) c ∷ panelTold x cs) (step-bytes w (whole s w h) (c .lent) (c .n) (c .t) (c .stored) (c .needed) (c .request))
+      ∙ ap₂ (λ (x : Bool) (l : List Told). toldOf (c .request) (c .lent) x ∷ l)
+      (step-told w (whole s w h) (c .lent) (c .n) (c .t) (c .stored) (c .needed) (c .request))
       (run-told cs (entries m s (told w (eventOf c ∷ []))) (stepOf w (c .request) (c .lent) .world) (event-holds m b p o s w h (eventOf c)))

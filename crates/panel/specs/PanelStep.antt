@@ -10,8 +10,8 @@ use lib.Dec.{eqb}
 use Rattle.history.specs.Step.{listIn}
 use Rattle.capi.specs.Capi.{Outcome, ListOutcome}
 use Rattle.calls.specs.declared.Request.{Request}
-use Rattle.calls.specs.declared.Request.the-variants.{Set, Reset, PowerLost, Update}
-use Rattle.capi.specs.Calls.{settingCall, powerLostCall, updateCall, updateStores, updateNeeded, resetCall, chipPowerLostCall, chipFeedCall}
+use Rattle.calls.specs.declared.Request.the-variants.{Set, Reset, PowerLost, Update, Lock}
+use Rattle.capi.specs.Calls.{settingCall, powerLostCall, lockCall, updateCall, updateStores, updateNeeded, resetCall, chipPowerLostCall, chipFeedCall}
 
 -- ---- What a C program keeps
 
@@ -61,3 +61,4 @@ panelStep w Reset lent n t stored needed = panelList (resetCall (w .host) lent n
 panelStep w PowerLost lent n t stored needed = panelSetting (powerLostCall (w .host)) (chipPowerLostCall (w .chip) .bytes) lent n t stored needed
 panelStep w Update lent n t stored needed =
     panelList (updateCall (w .host) lent n t) (w .chip) (updateStores (w .host) lent stored) (updateNeeded (w .host) lent needed)
+panelStep w Lock lent n t stored needed = panelSetting (lockCall (w .host)) (w .chip) lent n t stored needed

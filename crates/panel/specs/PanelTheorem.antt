@@ -113,7 +113,8 @@ module _ (m b p : ℕ) (so : opens m b p ≡ true) (s : List ℕ) (w : World) (h
     is-so : soundOf (world .host) ≡ true
     is-so =
         ap (λ (x : World). soundOf (x .host)) (holds .is)
-        ∙ is-sound (recordOf (headerOf m b p) asked (holds .image)) (record { opened = so; settings = holds .settings-fit; image = holds .image-fit })
+        ∙ is-sound (recordOf (headerOf m b p (holds .marks)) asked (holds .image))
+        (record { opened = so; settings = holds .settings-fit; image = holds .image-fit; marks = holds .marks-fit })
 
     module _ (buffer : List ℕ) (n t : ℕ) where
       -- what an Update of the record answers, and what it leaves

@@ -42,6 +42,7 @@ pub fn call(
             feed(answer, chip, lent, *n, *t);
             answer
         }
+        Request::Lock => capi::lp586x_lock(host),
     }
 }
 

@@ -100,8 +100,8 @@ pub call-does : (s : Session) (q : Request) (lent : lents.Lent) (old new : List 
 unfolding callEffect told
 call-does s q lent old new x locked g r ex el eg d =
     let after : new ≡ stepOf (s .world) q old .lent = ap (λ (y : Step). y .lent) ex in
-    let entered : g ≡ enteredOf (s .ledger) (toldOf q old locked) =
-        eg ∙ ap (λ (l : List ℕ). enteredOf (s .ledger) (toldOf q l locked)) after ∙ told-after (s .world) (s .ledger) q old locked in
+    let entering : List ℕ → Ledger = λ l. enteredOf (s .ledger) (toldOf q l locked) in
+    let entered : g ≡ entering old = eg ∙ ap entering after ∙ told-after (s .world) (s .ledger) q old locked in
     rw (← ex, ← el, ← entered) (rw (take-length new) at (d new (omega arith)))
 
 -- a call that shows the first n bytes of the buffer

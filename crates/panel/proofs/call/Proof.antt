@@ -1,6 +1,6 @@
 -- `panel::call` meets its contract.
 -- Assumes nothing.
-use Rattle.panel.proofs.Steps.{reset-room, update-room, setting-step, power-lost-step, reset-step, update-step}
+use Rattle.panel.proofs.Steps.{reset-room, update-room, setting-step, power-lost-step, lock-step, reset-step, update-step}
 use borrow.Author.Needs.{needs}
 use Rattle.panel.proofs.call.Statement.{statement}
 use Rattle.panel.proofs.call.Tie as tie
@@ -41,6 +41,12 @@ feed-requires-2 : tie.Need-feed-requires-2
 feed-requires-2 c κs =
     let made = c .before .before .before .before .before .before .before .before in
     update-room _ _ _ _ _ _ _ _ _ _ (made .lp586x-update .kept .1 .0) _ _ _ _ (made .lp586x-update .ensures)
+
+enum-told-4 : tie.Need-enum-told-4
+enum-told-4 c = search needs
+
+lp586x-lock-requires : tie.Need-lp586x-lock-requires
+lp586x-lock-requires c κs = search needs
 
 same-length : tie.Need-same-length
 same-length c = search needs
@@ -90,6 +96,12 @@ returns-4 c =
     let made = c .before .before .before .before .before .before .before .before .before .before .before in
     update-step _ _ _ _ _ _ _ _ _ _ _ _ _ _ _ (made .before .before .before .before .before .before .before .enum-told3 .given .1) (made .lp586x-update .ensures) (c .before .before .feed2 .ensures)
 
+same-length-11 : tie.Need-same-length-11
+same-length-11 c = search needs
+
+returns-5 : tie.Need-returns-5
+returns-5 c = lock-step _ _ _ _ _ _ _ _ _ (c .before .before .before .before .enum-told4 .given .1) (c .before .before .lp586x-lock .ensures)
+
 pub call-spec : {M : Type 1} → statement M
 call-spec =
     tie.close
@@ -105,6 +117,8 @@ call-spec =
     enum-told-3
     lp586x-update-requires
     feed-requires-2
+    enum-told-4
+    lp586x-lock-requires
     same-length
     same-length-2
     returns
@@ -118,4 +132,6 @@ call-spec =
     same-length-8
     same-length-9
     same-length-10
-    returns-4)
+    returns-4
+    same-length-11
+    returns-5)
