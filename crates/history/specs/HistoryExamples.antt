@@ -14,7 +14,7 @@ use Rattle.dots.specs.Dots.{wideOf, topLevel, putLevel, putBits, putField}
 use Rattle.calls.specs.declared.Setting.{Setting}
 use Rattle.calls.specs.declared.Setting.the-variants.{Register, Lamp, Group, Switch}
 use Rattle.calls.specs.declared.Request.{Request}
-use Rattle.calls.specs.declared.Request.the-variants.{Set, Reset, PowerLost, Update}
+use Rattle.calls.specs.declared.Request.the-variants.{Set, Reset, PowerLost, Update, Lock}
 use Rattle.host.specs.Record.{soundOf, putSetting}
 use Rattle.update.specs.declared.ListAnswer.the-variants as lists
 use Rattle.update.specs.Update.{sendAnswer, sendOf, sendBuffer}
@@ -23,7 +23,7 @@ use Rattle.history.specs.declared.World.{World}
 use Rattle.history.specs.declared.CallAnswer.{CallAnswer}
 use Rattle.history.specs.declared.CallAnswer.the-variants as answers
 use Rattle.history.specs.Ledger.{registerMeets, lampMeets, fieldMeets, settingMeets, Told, toldOf, ledger, wantsOn, openedLedger, enteredOf}
-use Rattle.history.specs.Step.{callNumbers, listIn, stepOf, clearStep}
+use Rattle.history.specs.Step.{callNumbers, answersLocked, listIn, stepOf, clearStep}
 
 -- "a definition states this paper's number and values for each case of the enum"
 call-answers : List CallAnswer
@@ -38,6 +38,12 @@ numbers-and-values : map (λ (x : CallAnswer). numbersIn (callNumbers x)) call-a
     ≡ (6 ∷ []) ∷ (0 ∷ 1 ∷ 3 ∷ []) ∷ (0 ∷ 3 ∷ 9 ∷ 3 ∷ []) ∷ (10 ∷ 19 ∷ []) ∷ []
 unfolding call-answers numbersIn numbersOf
 numbers-and-values = refl
+
+-- Q-5: "the ledger is told of each 17, of no other answer": not of 18, of 4, of 0, nor of a list of 17 transactions
+seventeens : map answersLocked (answers.Setting (numbersOf (17 ∷ [])) ∷ answers.Setting (numbersOf (18 ∷ [])) ∷ answers.Setting (numbersOf (4 ∷ [])) ∷ answers.Setting (numbersOf (0 ∷ [])) ∷ answers.List (lists.Listed 17 51) ∷ [])
+    ≡ true ∷ false ∷ false ∷ false ∷ false ∷ []
+unfolding answersLocked numbersOf
+seventeens = refl
 
 -- the list of n = 1 and t = 3 is the first "4 + 2n + t" bytes of the buffer
 list-in-front : listIn 1 3 (1 ∷ 2 ∷ 3 ∷ 4 ∷ 5 ∷ 6 ∷ 7 ∷ 8 ∷ 9 ∷ 10 ∷ []) ≡ 1 ∷ 2 ∷ 3 ∷ 4 ∷ 5 ∷ 6 ∷ 7 ∷ 8 ∷ 9 ∷ []
@@ -74,16 +80,18 @@ abbrev setting : Setting → Told
 setting q = plain (Set q)
 
 -- document 01's second bench example and the last dot, then settings that fail their conditions and calls that set nothing: 38Ch is not
--- writable, 02h at 000h has a reserved bit set, 256 is no level of 8 bits, 4 no group, 2 no state
+-- writable, 02h at 000h has a reserved bit set, 256 is no level of 8 bits, 4 no group, 2 no state. Then three Registers of which the second was
+-- answered 17: "such a Register changes nothing there".
 calls : List Told
 calls =
     setting (Register 0x000 0x01) ∷ setting (Register 0x001 0x58) ∷ setting (Lamp 0 2 0x40)
     ∷ setting (Lamp 10 17 255) ∷ setting (Group 10 17 3) ∷ setting (Switch 10 16 1) ∷ setting (Switch 10 17 0)
     ∷ setting (Register 0x38C 0x01) ∷ setting (Register 0x000 0x02) ∷ setting (Lamp 0 2 256) ∷ setting (Group 10 16 4) ∷ setting (Switch 10 16 2)
-    ∷ plain Update ∷ plain Reset ∷ plain PowerLost ∷ []
+    ∷ plain Update ∷ plain Reset ∷ plain PowerLost ∷ plain Lock
+    ∷ setting (Register 0x003 0x54) ∷ toldOf (Set (Register 0x003 0x00)) [] true ∷ toldOf (Set (Register 0x004 0x00)) [] false ∷ []
 
-settings-asked : map (λ (a : ℕ). getD (ledger 0 calls) a 0) (0x000 ∷ 0x001 ∷ 0x202 ∷ 0x203 ∷ 0x2C5 ∷ 0x042 ∷ 0x063 ∷ [])
-    ≡ 0x01 ∷ 0x58 ∷ 0x40 ∷ 0x00 ∷ 0xFF ∷ 0x0C ∷ 0x01 ∷ []
+settings-asked : map (λ (a : ℕ). getD (ledger 0 calls) a 0) (0x000 ∷ 0x001 ∷ 0x202 ∷ 0x203 ∷ 0x2C5 ∷ 0x042 ∷ 0x063 ∷ 0x003 ∷ 0x004 ∷ [])
+    ≡ 0x01 ∷ 0x58 ∷ 0x40 ∷ 0x00 ∷ 0xFF ∷ 0x0C ∷ 0x01 ∷ 0x54 ∷ 0x00 ∷ []
 unfolding calls settingMeets putSetting registerMeets lampMeets fieldMeets okByte writableOf reservedOf reservedAs kindOf linesOf columnsOf hasColumn dotIn isDot numberIn addressOf shiftOf widthOf dataMode isWide firstMasks firstMask pwmReserved wideOf topLevel putLevel putBits putField resetImage table tableFrom resetOf resetAs firstReset switchBytesOf switchReset currentReset
 settings-asked = refl
 

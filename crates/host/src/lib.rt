@@ -20,6 +20,7 @@ pub use answers::sound_parts;
 use calls::Setting;
 pub use locks::FREE;
 pub use locks::LOCKED;
+pub use locks::is_locked;
 pub use locks::lock_answer;
 pub use locks::lock_keeps;
 pub use locks::with_marks;

@@ -23,7 +23,8 @@ fn is_trim(address: usize) -> bool
     address == 0x004
 }
 
-fn is_locked(header: Header) -> bool
+// Whether the lock is set.
+pub fn is_locked(header: Header) -> bool
     ensures { λ r. ⌜ r ≡ isLocked header ⌝ }
 {
     header.marks % 2 == 1

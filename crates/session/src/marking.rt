@@ -2,7 +2,6 @@
 ghost use mathlib.Core.Path.{_≡_};
 ghost use mathlib.Core.List.{List};
 ghost use Prim.Native.Nat.{ℕ};
-ghost use Rattle.host.specs.Record.{isLocked};
 ghost use Rattle.session.specs.Run.{Does, alone, marksReply};
 use crate::Session;
 use crate::outcomes::Outcome;
@@ -10,16 +9,10 @@ use crate::outcomes::alone;
 use host::Header;
 use replies::Reply;
 
-fn is_locked(header: Header) -> bool
-    ensures { λ r. ⌜ r ≡ isLocked header ⌝ }
-{
-    header.marks % 2 == 1
-}
-
 fn marks_reply(header: Header) -> Reply
     ensures { λ r. ⌜ r ≡ marksReply header ⌝ }
 {
-    if is_locked(header) {
+    if host::is_locked(header) {
         return Reply::Locked;
     }
     Reply::Free

@@ -8,7 +8,7 @@ use lib.ListN.{length, drop}
 use Rattle.map.specs.RefusalLaws.{opens-pins}
 use Rattle.burst.specs.Burst.{Burst, sizesGood, transactions, burstOf, dataBytes, encode}
 use Rattle.burst.specs.BurstLaws.{encode-sizes, encode-back}
-use Rattle.burst.specs.FrontLaws.{Begins, transactions-front, begins-front}
+use Rattle.burst.specs.FrontLaws.{LeadsWithList, transactions-front, begins-front}
 use Rattle.plan.specs.Update.{storeAll}
 use Rattle.host.specs.declared.Header.{Header}
 use Rattle.host.specs.declared.Record.{Record}
@@ -52,8 +52,8 @@ module _ (answer : ListAnswer) (header : Header) (settings image lent buffer : L
     good : sizesGood list ≡ true
     good = encode-sizes (header .bus) (header .pins) (writesOf r) (update-sendable r sound)
 
-    begins : Begins buffer
-    begins = subst Begins (sym in-front) (begins-front rest list good)
+    begins : LeadsWithList buffer
+    begins = subst LeadsWithList (sym in-front) (begins-front rest list good)
 
     -- they are the update's
     found-are : found ≡ writesOf r
@@ -66,7 +66,7 @@ module _ (answer : ListAnswer) (header : Header) (settings image lent buffer : L
     within : AllWithin (length image) found
     within = rw (found-are, sound-is r sound .image .size) (update-within r sound)
 
-    module _ (count : ℕ) (new : List ℕ) (f : Begins buffer → AllWithin (length image) found → (count ≡ dataBytes found) × (new ≡ storeAll found image)) where
+    module _ (count : ℕ) (new : List ℕ) (f : LeadsWithList buffer → AllWithin (length image) found → (count ≡ dataBytes found) × (new ≡ storeAll found image)) where
       pub count-listed : count ≡ updateStored r (length lent)
       count-listed = f begins within .0 ∙ ap dataBytes found-are ∙ sym (stored-data r (length lent) n t listed)
 

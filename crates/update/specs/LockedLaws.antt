@@ -58,8 +58,7 @@ module _ (r : Record) (i : Image (r .header .member) (r .settings)) (t : SameTri
       let may : ℕ → Bool = mayWrite (markedAs (r .header) free) in
       let held : ℕ → Bool = mayWrite (markedAs (r .header) locked) in
       let one = eq-eqb _ _ (sym (t .first)) in
-      let two = eq-eqb _ _ (sym (t .second)) in
-      (
+      let two = eq-eqb _ _ (sym (t .second)) in (
         locked-least may held 0x003 locked-at 908 (r .settings) (chipView r) one two,
         locked-count may held 0x003 locked-at 908 (r .settings) (chipView r) one two,
       )

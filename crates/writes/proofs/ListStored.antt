@@ -13,7 +13,7 @@ use lib.Seq.{sets, length-take-le}
 use Rattle.burst.specs.Burst.{Burst, size16, nOf, lengthsFrom, lengths, cutFrom, transactions, sum, allAtLeast3, headAddress, burstOf, dataBytes}
 use Rattle.burst.specs.BurstLaws.{and-left, and-right, size-small, lengths-none, lengths-step, head-address-small}
 use Rattle.burst.specs.PlaceLaws.{burst-at}
-use Rattle.burst.specs.FrontLaws.{Begins}
+use Rattle.burst.specs.FrontLaws.{LeadsWithList}
 use Rattle.plan.specs.Update.{storeAll}
 use Rattle.writes.specs.Stored.{Within, AllWithin}
 
@@ -64,7 +64,7 @@ module _ (bus : ℕ) (old l : List ℕ) where
     pub same : length image ≡ length old
     pub place : from ≤ 4 + 2 * n + 65535 * i
     pub most : stored ≤ 65535 * i
-    pub left : Begins l → AllWithin (length old) all → Left (lengthsFrom l (4 + 2 * i) (n - i)) image stored from
+    pub left : LeadsWithList l → AllWithin (length old) all → Left (lengthsFrom l (4 + 2 * i) (n - i)) image stored from
 
   pub storing-none : (n : ℕ) → n ≡ size16 l 0 → Storing n old 0 (4 + 2 * n) 0
   unfolding nOf lengths transactions
@@ -92,7 +92,7 @@ module _ (bus : ℕ) (old l : List ℕ) where
     abbrev ks : List ℕ
     ks = lengthsFrom l (4 + 2 * (i + 1)) (n - (i + 1))
 
-    step : Begins l → AllWithin (length old) all → Left (k ∷ ks) image stored from
+    step : LeadsWithList l → AllWithin (length old) all → Left (k ∷ ks) image stored from
     step g w = subst (λ (x : List ℕ). Left x image stored from) (lengths-step l n i h ∙ ap (λ (x : ℕ). x ∷ ks) (sym e)) (s .left g w)
 
     pub storing-more : (new : List ℕ) (r : ℕ) → length new ≡ length image → r ≤ k →
@@ -120,11 +120,11 @@ module _ (bus : ℕ) (old l : List ℕ) where
     }
 
   module _ (n : ℕ) (image : List ℕ) (stored from i : ℕ) (s : Storing n image stored from i) (h : n ≤ i) where
-    done : Begins l → AllWithin (length old) all → Left [] image stored from
+    done : LeadsWithList l → AllWithin (length old) all → Left [] image stored from
     done g w =
         let none : n - i ≡ 0 = omega arith in
         subst (λ (x : List ℕ). Left x image stored from) (ap (lengthsFrom l (4 + 2 * i)) none ∙ lengths-none l (4 + 2 * i)) (s .left g w)
 
-    pub all-stored : Begins l → AllWithin (length old) all → (stored ≡ dataBytes all) × (image ≡ storeAll all old)
+    pub all-stored : LeadsWithList l → AllWithin (length old) all → (stored ≡ dataBytes all) × (image ≡ storeAll all old)
     unfolding cutFrom
     all-stored g w = (omega (arith, done g w .counts), done g w .stores)

@@ -5,7 +5,7 @@ ghost use Prim.Native.Nat.{_+_, _^_, _≤_, _<_};
 ghost use lib.ListN.{length, take, drop};
 ghost use lib.Seq.{sets};
 ghost use Rattle.burst.specs.Burst.{burstOf, transactions, dataBytes};
-ghost use Rattle.burst.specs.FrontLaws.{Begins};
+ghost use Rattle.burst.specs.FrontLaws.{LeadsWithList};
 ghost use Rattle.plan.specs.Update.{storeAll};
 ghost use Rattle.writes.specs.Stored.{Within, AllWithin};
 use crate::writer::store;
@@ -40,7 +40,7 @@ fn store_transaction(image: &mut [u8], bus: u8, list: &[u8], from: usize, size: 
 // The data bytes of every transaction of the list at the front of these bytes. It answers how many it stored.
 pub fn store_list(image: &mut [u8], bus: u8, list: &[u8]) -> usize
     ensures { λ r. ⌜
-        (Begins (now (list .entry)) → AllWithin (length (now (image .entry))) (map (burstOf bus) (transactions (now (list .entry)))) →
+        (LeadsWithList (now (list .entry)) → AllWithin (length (now (image .entry))) (map (burstOf bus) (transactions (now (list .entry)))) →
         (r ≡ dataBytes (map (burstOf bus) (transactions (now (list .entry)))))
         × (now (image .exit) ≡ storeAll (map (burstOf bus) (transactions (now (list .entry)))) (now (image .entry))))
         ⌝ }
