@@ -15,16 +15,14 @@ use Rattle.map.specs.declared.dots.Field as fields
 use Rattle.map.specs.declared.refusals.Answer.the-variants.{Accepted}
 use Rattle.map.specs.declared.refusals.Refusal.the-variants.{Unsound, NotLockable}
 use Rattle.map.specs.Refusals.{accepted}
-use Rattle.map.specs.Map.{addressOf, dotNumber}
+use Rattle.map.specs.Map.{addressOf}
 use Rattle.map.specs.ListLaws.{and-left, and-right}
 use Rattle.dots.specs.Dots.{putField}
 use Rattle.dots.specs.DotLaws.{level-elsewhere}
-use Rattle.calls.specs.declared.Setting.{Setting}
-use Rattle.calls.specs.declared.Setting.the-variants.{Register, Lamp, Group, Switch, Scene}
 use Rattle.host.specs.declared.Header.{Header}
 use Rattle.host.specs.declared.Record.{Record}
-use Rattle.host.specs.Record.{recordOf, isTrim, isLocked, free, lockKeeps, sameTrims, marksOk, sceneCount, sceneDot, sceneLevel, putScene, argumentsAnswer, putSetting, soundOf, whenSound, isOn, isLockable, lockAnswer}
-use Rattle.host.specs.RecordLaws.{passed, keeps-trim, register-taken}
+use Rattle.host.specs.Record.{recordOf, isTrim, isLocked, free, lockKeeps, sameTrims, marksOk, sceneDot, sceneLevel, putScene, soundOf, whenSound, isOn, isLockable, lockAnswer}
+use Rattle.host.specs.RecordLaws.{passed, keeps-trim}
 
 -- ---- the marks of a sound record
 
@@ -83,10 +81,10 @@ kept-same h settings image k a e = go (keeps-trim h a e)
     go (inl q) = subst (λ (x : ℕ). getD settings x 0 ≡ getD image x 0) (sym q) (same .first)
     go (inr q) = subst (λ (x : ℕ). getD settings x 0 ≡ getD image x 0) (sym q) (same .second)
 
--- ---- a setting leaves the locked addresses
+-- ---- what leaves the locked addresses as they are
 
 -- they stand below 00Ch,
-kept-low : (h : Header) (a : ℕ) → lockKeeps h a ≡ true → a < 0x00C
+pub kept-low : (h : Header) (a : ℕ) → lockKeeps h a ≡ true → a < 0x00C
 kept-low h a e = go (keeps-trim h a e)
   where
     go : (a ≡ 0x003) ⊎ (a ≡ 0x004) → a < 0x00C
@@ -94,7 +92,7 @@ kept-low h a e = go (keeps-trim h a e)
     go (inr q) = omega arith
 
 -- a dot's bits at 00Ch or above,
-field-above : (f : Field) (image : List ℕ) (l s v a : ℕ) → a < 0x00C → getD (putField f image l s v) a 0 ≡ getD image a 0
+pub field-above : (f : Field) (image : List ℕ) (l s v a : ℕ) → a < 0x00C → getD (putField f image l s v) a 0 ≡ getD image a 0
 unfolding putField addressOf
 field-above f image l s v a h = getD-set-other image (addressOf f l s) a _ 0 (λ e. omega (arith, e, above f))
   where
@@ -108,30 +106,14 @@ field-above f image l s v a h = getD-set-other image (addressOf f l s) a _ 0 (λ
     above fields.the-variants.Pwm16 = omega arith
 
 -- and the levels of a scene at 200h or above
-scene-above : (bytes image : List ℕ) (k a : ℕ) → a < 0x200 → getD (putScene bytes image k) a 0 ≡ getD image a 0
+pub scene-above : (bytes image : List ℕ) (k a : ℕ) → a < 0x200 → getD (putScene bytes image k) a 0 ≡ getD image a 0
 unfolding putScene
 scene-above bytes image zero a h = refl
 scene-above bytes image (suc k) a h =
     level-elsewhere (putScene bytes image k) (sceneDot bytes k) (sceneLevel bytes k) a h ∙ scene-above bytes image k a h
 
--- "and the settings hold what the chip image held at locking": an accepted setting leaves the locked addresses as they are
-pub setting-keeps : (h : Header) (settings : List ℕ) (q : Setting) (lent : List ℕ) → accepted (argumentsAnswer h settings q lent) ≡ true →
-    (a : ℕ) → lockKeeps h a ≡ true → getD (putSetting settings q lent) a 0 ≡ getD settings a 0
-unfolding argumentsAnswer putSetting
-setting-keeps h settings q lent e a k = go q e
-  where
-    low : a < 0x00C
-    low = kept-low h a k
-
-    go : (x : Setting) → accepted (argumentsAnswer h settings x lent) ≡ true → getD (putSetting settings x lent) a 0 ≡ getD settings a 0
-    go (Register b v) t = getD-set-other settings b a v 0 (λ q. true≢false (sym k ∙ subst (λ (x : ℕ). lockKeeps h x ≡ false) (sym q) (register-taken h b v t .unlocked)))
-    go (Lamp l s v) t = level-elsewhere settings (dotNumber l s) v a (omega (arith, low))
-    go (Group l s g) t = field-above fields.the-variants.Group settings l s g a low
-    go (Switch l s x) t = field-above fields.the-variants.Switch settings l s x a low
-    go Scene t = scene-above lent settings (sceneCount lent) a (omega (arith, low))
-
--- so that the marks stay right: where the locked addresses are left they do
-marks-stay : (h : Header) (settings image : List ℕ) → Marks h settings image → (new : List ℕ) →
+-- where these stay the marks stay right,
+pub marks-stay : (h : Header) (settings image : List ℕ) → Marks h settings image → (new : List ℕ) →
     ((a : ℕ) → lockKeeps h a ≡ true → getD new a 0 ≡ getD settings a 0) → Marks h new image
 unfolding lockKeeps isTrim
 marks-stay h settings image k new kept = record {
@@ -139,11 +121,7 @@ marks-stay h settings image k new kept = record {
   trims = λ l. record { first = kept 0x003 l ∙ k .trims l .first; second = kept 0x004 l ∙ k .trims l .second };
 }
 
-pub setting-marks : (h : Header) (settings image : List ℕ) → Marks h settings image → (q : Setting) (lent : List ℕ) →
-    accepted (argumentsAnswer h settings q lent) ≡ true → Marks h (putSetting settings q lent) image
-setting-marks h settings image k q lent e = marks-stay h settings image k (putSetting settings q lent) (setting-keeps h settings q lent e)
-
--- and so does a part of a scene
+-- as with a part of a scene
 pub scene-marks : (h : Header) (settings image : List ℕ) → Marks h settings image → (bytes : List ℕ) (k : ℕ) → Marks h (putScene bytes settings k) image
 scene-marks h settings image m bytes k =
     marks-stay h settings image m (putScene bytes settings k) (λ a l. scene-above bytes settings k a (omega (arith, kept-low h a l)))

@@ -1,10 +1,12 @@
 -- A sound record as a property, and that every call keeps it.
 -- Assumes nothing.
-use mathlib.Core.Path.{_≡_, refl}
-use mathlib.Core.Bool.{Bool, true, false, cond, _&&_}
+use mathlib.Core.Path.{_≡_, refl, sym, _∙_, subst}
+use mathlib.Core.Bool.{Bool, true, false, cond, _&&_, true≢false}
 use mathlib.Core.List.{List}
 use Prim.Native.Nat.{ℕ, zero, suc, _<_, _≤_}
 use native.Mathlib.Omega.{arith}
+use lib.ListN.{getD}
+use lib.Seq.{getD-set-other}
 use Rattle.map.specs.declared.dots.Field as fields
 use Rattle.map.specs.Refusals.{accepted, openAnswer, opens}
 use Rattle.map.specs.RefusalLaws.{opens-member}
@@ -14,15 +16,16 @@ use Rattle.map.specs.Lists.{allFrom}
 use Rattle.map.specs.ListLaws.{and-left, and-right, all-at}
 use Rattle.map.specs.Images.{imageOk, resetImage}
 use Rattle.map.specs.ImageLaws.{ok-fit, Image, image-ok, ok-image}
+use Rattle.dots.specs.DotLaws.{level-elsewhere}
 use Rattle.dots.specs.DotImages.{reset-image, set-image, level-image, field-image, group-width, switch-width, group-narrow, switch-narrow, number-small}
 use Rattle.calls.specs.declared.Setting.{Setting}
 use Rattle.calls.specs.declared.Setting.the-variants.{Register, Lamp, Group, Switch, Scene}
 use Rattle.host.specs.declared.Header.{Header}
 use Rattle.host.specs.declared.Record.{Record}
-use Rattle.host.specs.Record.{headerOf, recordOf, free, locked, markedAs, marksOk, soundOf, opened, openHost, openOf, sceneCount, sceneDot, sceneLevel, sceneHasDot, putScene}
+use Rattle.host.specs.Record.{headerOf, recordOf, free, locked, markedAs, lockKeeps, marksOk, soundOf, opened, openHost, openOf, sceneCount, sceneDot, sceneLevel, sceneHasDot, putScene}
 use Rattle.host.specs.Record.{argumentsAnswer, settingAnswer, putSetting, changedTo, settingOf, soundAnswer, chipReset, powerLostOf, lockAnswer, lockOf}
 use Rattle.host.specs.RecordLaws.{setting-taken, register-taken, lamp-taken, field-taken, scene-taken}
-use Rattle.host.specs.LockLaws.{Marks, marks-are, are-marks, setting-marks, free-marks, lock-taken}
+use Rattle.host.specs.LockLaws.{Marks, marks-are, are-marks, kept-low, field-above, scene-above, marks-stay, free-marks, lock-taken}
 
 -- ---- the property
 
@@ -103,6 +106,29 @@ setting-image h settings i (Switch l s x) lent e =
     field-image fields.the-variants.Switch (h .member) settings l s x i switch-narrow (below switch-width (t .fits)) (dot-free (h .member) l s (t .dot) .switch)
 setting-image h settings i Scene lent e =
     scene-image (h .member) settings lent (sceneCount lent) i (scene-taken h settings lent e .dots) (sceneCount lent) (omega arith)
+
+-- ---- a setting leaves the locked addresses
+
+-- "and the settings hold what the chip image held at locking": an accepted setting leaves the locked addresses as they are
+pub setting-keeps : (h : Header) (settings : List ℕ) (q : Setting) (lent : List ℕ) → accepted (argumentsAnswer h settings q lent) ≡ true →
+    (a : ℕ) → lockKeeps h a ≡ true → getD (putSetting settings q lent) a 0 ≡ getD settings a 0
+unfolding argumentsAnswer putSetting
+setting-keeps h settings q lent e a k = go q e
+  where
+    low : a < 0x00C
+    low = kept-low h a k
+
+    go : (x : Setting) → accepted (argumentsAnswer h settings x lent) ≡ true → getD (putSetting settings x lent) a 0 ≡ getD settings a 0
+    go (Register b v) t = getD-set-other settings b a v 0 (λ q. true≢false (sym k ∙ subst (λ (x : ℕ). lockKeeps h x ≡ false) (sym q) (register-taken h b v t .unlocked)))
+    go (Lamp l s v) t = level-elsewhere settings (dotNumber l s) v a (omega (arith, low))
+    go (Group l s g) t = field-above fields.the-variants.Group settings l s g a low
+    go (Switch l s x) t = field-above fields.the-variants.Switch settings l s x a low
+    go Scene t = scene-above lent settings (sceneCount lent) a (omega (arith, low))
+
+-- so that the marks stay right
+pub setting-marks : (h : Header) (settings image : List ℕ) → Marks h settings image → (q : Setting) (lent : List ℕ) →
+    accepted (argumentsAnswer h settings q lent) ≡ true → Marks h (putSetting settings q lent) image
+setting-marks h settings image k q lent e = marks-stay h settings image k (putSetting settings q lent) (setting-keeps h settings q lent e)
 
 -- ---- every call
 

@@ -7,7 +7,6 @@ use Rattle.history.proofs.FedLists.{within, update-within, sent-is, upd
 use borrow.Author.Needs.{needs}
 use Rattle.history.proofs.step.Statement.{statement}
 use Rattle.history.proofs.step.Tie as tie
-use Rattle.host.proofs.power_lost.Reads as power-lost-reads′
 
 enum-known-request : tie.Need-enum-known-request
 enum-known-request c = search needs
