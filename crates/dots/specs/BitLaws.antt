@@ -1,11 +1,15 @@
 -- A field of a byte, put there: what is put is read back, the other bits stay, the last one put stands, a mask without the
--- field does not see it. For a field of any width at any bit.
+-- field does not see it. For a field of any width at any bit. At the end the same bit by bit.
 -- Assumes nothing.
 use mathlib.Core.Path.{_≡_, sym, ap, ap₂, subst, _∙_}
-use Prim.Native.Nat.{ℕ, suc, _+_, _-_, _*_, _/_, _%_, _^_, _<_, _≤_}
+use mathlib.Core.Bool.{cond, _&&_}
+use Prim.Native.Nat.{ℕ, zero, suc, _+_, _-_, _*_, _/_, _%_, _^_, _<_, _≤_}
 use native.Mathlib.Nat.{mod-lt, add-mul, suc-mul, mul-le-mul-right, lt-of-lt-of-le}
+use native.Mathlib.Decide.{decLt}
 use native.Mathlib.Omega.{arith}
-use lib.Pow.{pow-pos, pow-mono, pow-add, shl-lt, shr-lt, split, shr-shr, high, low}
+use borrow.Author.Tests.{le-leb, lt-leb, lt-ltb, le-ltb}
+use lib.Dec.{leb, ltb}
+use lib.Pow.{pow-pos, pow-mono, pow-add, shl-lt, shr-lt, split, shr-shr, high, low, field, mod-mod-pow}
 use lib.Bits.{bitAnd, and-block, and-zero-r}
 use Rattle.dots.specs.Dots.{putBits}
 
@@ -104,3 +108,58 @@ module _ (p w : ℕ) (fits : p + w ≤ 8) where
     where
       sum : p + w ≤ 8 → w + p ≤ 8
       sum h = omega arith
+
+-- ---- bit by bit
+
+-- a number's low bits are those of what is left of it below a power
+pub low-bit : (x j p : ℕ) → j < p → x % 2 ^ p / 2 ^ j % 2 ≡ x / 2 ^ j % 2
+low-bit x j p h =
+    ap (λ (k : ℕ). x % 2 ^ k / 2 ^ j % 2) (sum h)
+    ∙ ap (λ (y : ℕ). y % 2) (field x (p - suc j + 1) j)
+    ∙ mod-mod-pow (x / 2 ^ j) (p - suc j) 1
+  where
+    sum : j < p → p ≡ p - suc j + 1 + j
+    sum l = omega arith
+
+-- numbers of n bits with the same bits are the same
+pub same-number : (n x y : ℕ) → x < 2 ^ n → y < 2 ^ n → ((i : ℕ) → i < n → x / 2 ^ i % 2 ≡ y / 2 ^ i % 2) → x ≡ y
+same-number zero x y hx hy e = omega arith
+same-number (suc n) x y hx hy e =
+    whole (same-number n (x / 2) (y / 2) (half x hx) (half y hy) (λ i h. ap (λ (z : ℕ). z % 2) (shr-shr x 1 i) ∙ next i h ∙ ap (λ (z : ℕ). z % 2) (sym (shr-shr y 1 i)))) (e 0 (omega arith))
+  where
+    half : (z : ℕ) → z < 2 ^ suc n → z / 2 < 2 ^ n
+    half z h = shr-lt n 1 (subst (λ (k : ℕ). z < 2 ^ k) (one n) h)
+      where
+        one : (k : ℕ) → suc k ≡ k + 1
+        one k = omega arith
+
+    next : (i : ℕ) → i < n → x / 2 ^ (1 + i) % 2 ≡ y / 2 ^ (1 + i) % 2
+    next i h = e (1 + i) (omega arith)
+
+    whole : x / 2 ≡ y / 2 → x / 2 ^ 0 % 2 ≡ y / 2 ^ 0 % 2 → x ≡ y
+    whole q r = omega arith
+
+-- the bits of a byte with v in the w bits from bit p up
+pub put-bit : (p w byte v j : ℕ) → v < 2 ^ w → putBits p w byte v / 2 ^ j % 2 ≡ cond (leb p j && ltb j (p + w)) (v / 2 ^ (j - p) % 2) (byte / 2 ^ j % 2)
+put-bit p w byte v j h = go (decLt j p) (decLt j (p + w))
+  where
+    -- bit j, counted from another bit
+    shifted : (x k : ℕ) → k ≤ j → x / 2 ^ k / 2 ^ (j - k) % 2 ≡ x / 2 ^ j % 2
+    shifted x k l = ap (λ (y : ℕ). y % 2) (shr-shr x k (j - k)) ∙ ap (λ (i : ℕ). x / 2 ^ i % 2) (sum l)
+      where
+        sum : k ≤ j → k + (j - k) ≡ j
+        sum u = omega arith
+
+    go : Dec (j < p) → Dec (j < p + w) → putBits p w byte v / 2 ^ j % 2 ≡ cond (leb p j && ltb j (p + w)) (v / 2 ^ (j - p) % 2) (byte / 2 ^ j % 2)
+    go (yes l) u =
+        rw (lt-leb p j l) (sym (low-bit (putBits p w byte v) j p l) ∙ ap (λ (x : ℕ). x / 2 ^ j % 2) (put-below p w byte v) ∙ low-bit byte j p l)
+    go (no l) (yes u) =
+        rw (le-leb p j (omega arith), lt-ltb j (p + w) u)
+        (sym (shifted (putBits p w byte v) p (omega arith))
+        ∙ sym (low-bit (putBits p w byte v / 2 ^ p) (j - p) w (omega arith))
+        ∙ ap (λ (x : ℕ). x / 2 ^ (j - p) % 2) (put-read p w byte v h))
+    go (no l) (no u) =
+        rw (le-leb p j (omega arith), le-ltb j (p + w) (omega arith))
+        (sym (shifted (putBits p w byte v) (p + w) (omega arith))
+        ∙ ap (λ (x : ℕ). x / 2 ^ (j - (p + w)) % 2) (put-above p w byte v h)
+        ∙ shifted byte (p + w) (omega arith))

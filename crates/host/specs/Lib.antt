@@ -5,4 +5,6 @@ pub mod FreeLaws
 pub mod SoundLaws
 pub mod SettingLaws
 pub mod SceneLaws
+pub mod CueOrder
+pub mod CueLaws
 pub mod RecordExamples

@@ -10,7 +10,7 @@ use native.Mathlib.Omega.{arith}
 use Rattle.map.specs.Refusals.{accepted}
 use Rattle.map.specs.Map.{isDot, numberIn}
 use Rattle.map.specs.ListLaws.{all-at}
-use Rattle.dots.specs.Dots.{topLevel, putLevel, levelOf}
+use Rattle.dots.specs.Dots.{wideOf, topLevel, putLevel, levelOf}
 use Rattle.dots.specs.DotLaws.{level-mode, level-reads-back, level-other}
 use Rattle.dots.specs.DotImages.{number-small}
 use Rattle.calls.specs.declared.Setting.{Setting}
@@ -35,12 +35,15 @@ unfoldable pub lampsOf : Record → List ℕ → ℕ → Record
 lampsOf r bytes zero = r
 lampsOf r bytes (suc k) = settingOf (lampsOf r bytes k) (entryLamp bytes k) [] .host
 
--- a scene changes no data mode
+-- a scene changes no data mode, and so no largest level
+pub scene-mode : (bytes image : List ℕ) (k : ℕ) → wideOf (putScene bytes image k) ≡ wideOf image
+unfolding putScene
+scene-mode bytes image zero = refl
+scene-mode bytes image (suc k) = level-mode (putScene bytes image k) (sceneDot bytes k) (sceneLevel bytes k) ∙ scene-mode bytes image k
+
 scene-top : (bytes image : List ℕ) (k : ℕ) → topLevel (putScene bytes image k) ≡ topLevel image
-unfolding putScene topLevel
-scene-top bytes image zero = refl
-scene-top bytes image (suc k) =
-    ap (λ (b : Bool). cond b 65535 255) (level-mode (putScene bytes image k) (sceneDot bytes k) (sceneLevel bytes k)) ∙ scene-top bytes image k
+unfolding topLevel
+scene-top bytes image k = ap (λ (b : Bool). cond b 65535 255) (scene-mode bytes image k)
 
 module _ (r : Record) (bytes : List ℕ) (t : accepted (settingAnswer r Scene bytes) ≡ true) where
   taken : SceneTaken (r .header) (r .settings) bytes
