@@ -2,9 +2,10 @@
 -- about every record, so about "all members and both buses together". r is a record, l and k are lines, s and t sinks, v and w values.
 -- Assumes nothing.
 use mathlib.Core.Path.{_≡_}
-use mathlib.Core.Bool.{true}
+use mathlib.Core.Bool.{Bool, true, not}
 use mathlib.Core.List.{List, [], _∷_}
-use Prim.Native.Nat.{ℕ, _+_, _<_}
+use Prim.Native.Nat.{ℕ, _<_}
+use lib.Dec.{eqb}
 use Rattle.map.specs.Refusals.{accepted}
 use Rattle.map.specs.Map.{dotNumber}
 use Rattle.dots.specs.Dots.{wideOf}
@@ -52,6 +53,22 @@ abbrev pub afterAll : Record → List Cue → Record
 afterAll r [] = r
 afterAll r (q ∷ qs) = afterAll (after r q) qs
 
+-- Document 02 asks for four claims: DotsInEitherOrder, LaterLampStands, SceneTwice and ScenesInEitherOrder. The other two go on from them.
+
+-- ---- Answers
+
+-- calls that leave 001h, where the data mode stands
+unfoldable pub keepsMode : Cue → Bool
+keepsMode (dot c l s v) = true
+keepsMode (register a v) = not (eqb a 0x001)
+keepsMode (scene bytes) = true
+
+-- such a call, accepted or refused, changes no answer of another: whatever the order, the same calls are accepted
+abbrev pub AnswersStay : Type 0
+AnswersStay =
+    (r : Record) (p q : Cue) → keepsMode p ≡ true →
+    settingAnswer (after r p) (settingIn q) (lentWith q) ≡ settingAnswer r (settingIn q) (lentWith q)
+
 -- ---- Either order
 
 -- p and then q were accepted. In the other order they are accepted too, and "give the same record".
@@ -76,6 +93,12 @@ abbrev pub ScenesInEitherOrder : Type 0
 ScenesInEitherOrder =
     (r : Record) (one other : List ℕ) → NoDotInCommon one other →
     Takes r (scene one) → Takes (after r (scene one)) (scene other) → EitherOrder r (scene one) (scene other)
+
+-- a Scene and a call on a dot, unless that is a Lamp on a dot of the scene
+abbrev pub SceneAndDotInEitherOrder : Type 0
+SceneAndDotInEitherOrder =
+    (r : Record) (bytes : List ℕ) (c : Sort) (l s v : ℕ) → (c ≡ lamp → (i : ℕ) → i < sceneCount bytes → sceneDot bytes i ≡ dotNumber l s → ⊥) →
+    Takes r (scene bytes) → Takes (after r (scene bytes)) (dot c l s v) → EitherOrder r (scene bytes) (dot c l s v)
 
 -- ---- The later one
 
