@@ -18,7 +18,7 @@ use Rattle.map.specs.Map.{dotNumber, addressOf, shiftOf, widthOf}
 use Rattle.map.specs.PlaceLaws.{firstBit, field-inside, Apart}
 use Rattle.dots.specs.Dots.{wideOf, putLevel, putBits, putField}
 use Rattle.dots.specs.BitLaws.{put-byte, low-bit, put-bit}
-use Rattle.dots.specs.ChangeLaws.{Bytes, bitAt, byte-bit, Change, bitsFrom, behind, Makes, makes-both, DifferentBits, at-from, at-inside, at-below, at-above}
+use Rattle.dots.specs.ChangeLaws.{Bytes, bitAt, byte-bit, Change, bitAfter, bitsFrom, behind, Makes, makes-both, DifferentBits, at-from, at-inside, at-below, at-above}
 
 -- ---- bits of a byte, and bytes
 
@@ -48,7 +48,7 @@ module _ (image : List ℕ) (a p w v : ℕ) (h : Bytes image) (inside : a < leng
   put-bytes k (no n) = rw (getD-set-other image a k (putBits p w (getD image a 0) v) 0 n) (h k)
 
   abbrev Put : ℕ → Type 0
-  Put k = bitAt put k ≡ cond (bitsFrom (8 * a + p) w v .at k) (bitsFrom (8 * a + p) w v .to k) (bitAt image k)
+  Put k = bitAt put k ≡ bitAfter (bitsFrom (8 * a + p) w v) k (bitAt image k)
 
   put-own : (i : ℕ) → i < 8 → Put (8 * a + i)
   put-own i l =
@@ -84,7 +84,7 @@ module _ (image : List ℕ) (a p w v : ℕ) (h : Bytes image) (inside : a < leng
       go k (no n) = put-others k n
 
 -- two changes are one where they put the same at each bit
-makes-as : (c d : Change) (x y : List ℕ) → ((k old : ℕ) → cond (c .at k) (c .to k) old ≡ cond (d .at k) (d .to k) old) → Makes c x y → Makes d x y
+makes-as : (c d : Change) (x y : List ℕ) → ((k old : ℕ) → bitAfter c k old ≡ bitAfter d k old) → Makes c x y → Makes d x y
 makes-as c d x y same e = record { size = e .size; bytes = e .bytes; bits = λ k. e .bits k ∙ same k (bitAt x k) }
 
 -- a whole byte: the low eight bits of v
@@ -99,40 +99,39 @@ byte-makes image a v first h inside e =
     (subst (λ (x : ℕ). Makes (bitsFrom x 8 (v % 256)) image (set image a (putBits 0 8 (getD image a 0) (v % 256)))) (sym e)
     (put-makes image a 0 8 (v % 256) h inside (omega arith) (omega arith))))
   where
-    same : (k old : ℕ) → Dec (k < first) → Dec (k < first + 8) →
-        cond (bitsFrom first 8 (v % 256) .at k) (bitsFrom first 8 (v % 256) .to k) old ≡ cond (bitsFrom first 8 v .at k) (bitsFrom first 8 v .to k) old
+    same : (k old : ℕ) → Dec (k < first) → Dec (k < first + 8) → bitAfter (bitsFrom first 8 (v % 256)) k old ≡ bitAfter (bitsFrom first 8 v) k old
     same k old (yes l) d = rw (at-below first 8 v k l) refl
     same k old (no l) (yes u) = rw (at-inside first 8 v k (omega arith) u) (low-bit v (k - first) 8 (omega arith))
     same k old (no l) (no u) = rw (at-above first 8 v k (omega arith)) refl
 
 -- two changes, the second right above the first, are one
-bits-joined : (first w u v : ℕ) (x y z : List ℕ) → Makes (bitsFrom first w v) x y → Makes (bitsFrom (first + w) u (v / 2 ^ w)) y z →
-    Makes (bitsFrom first (w + u) v) x z
-bits-joined first w u v x y z e f =
-    makes-as (behind low high) (bitsFrom first (w + u) v) x z (λ k old. same k old (decLt k first) (decLt k (first + w)) (decLt k (first + w + u)))
-    (makes-both low high x y z e f)
-  where
-    low : Change
-    low = bitsFrom first w v
+module _ (first w u v : ℕ) where
+  abbrev low : Change
+  low = bitsFrom first w v
 
-    high : Change
-    high = bitsFrom (first + w) u (v / 2 ^ w)
+  abbrev high : Change
+  high = bitsFrom (first + w) u (v / 2 ^ w)
 
-    same : (k old : ℕ) → Dec (k < first) → Dec (k < first + w) → Dec (k < first + w + u) →
-        cond (behind (bitsFrom first w v) (bitsFrom (first + w) u (v / 2 ^ w)) .at k) (behind (bitsFrom first w v) (bitsFrom (first + w) u (v / 2 ^ w)) .to k) old
-        ≡ cond (bitsFrom first (w + u) v .at k) (bitsFrom first (w + u) v .to k) old
-    same k old (yes l) d i =
-        rw (at-below first w v k l, at-below (first + w) u (v / 2 ^ w) k (omega arith), at-below first (w + u) v k l) refl
-    same k old (no l) (yes d) i =
-        rw (at-inside first w v k (omega arith) d, at-below (first + w) u (v / 2 ^ w) k d, at-inside first (w + u) v k (omega arith) (omega arith)) refl
-    same k old (no l) (no d) (yes i) =
-        rw (at-above first w v k (omega arith), at-inside (first + w) u (v / 2 ^ w) k (omega arith) i, at-inside first (w + u) v k (omega arith) (omega arith))
-        (ap (λ (n : ℕ). n % 2) (shr-shr v w (k - (first + w))) ∙ ap (λ (n : ℕ). v / 2 ^ n % 2) (sum k (omega arith)))
-      where
-        sum : (n : ℕ) → first + w ≤ n → w + (n - (first + w)) ≡ n - first
-        sum n h = omega arith
-    same k old (no l) (no d) (no i) =
-        rw (at-above first w v k (omega arith), at-above (first + w) u (v / 2 ^ w) k (omega arith), at-above first (w + u) v k (omega arith)) refl
+  abbrev whole : Change
+  whole = bitsFrom first (w + u) v
+
+  joined-bit : (k old : ℕ) → Dec (k < first) → Dec (k < first + w) → Dec (k < first + w + u) → bitAfter (behind low high) k old ≡ bitAfter whole k old
+  joined-bit k old (yes l) d i = rw (at-below first w v k l, at-below (first + w) u (v / 2 ^ w) k (omega arith), at-below first (w + u) v k l) refl
+  joined-bit k old (no l) (yes d) i =
+      rw (at-inside first w v k (omega arith) d, at-below (first + w) u (v / 2 ^ w) k d, at-inside first (w + u) v k (omega arith) (omega arith)) refl
+  joined-bit k old (no l) (no d) (yes i) =
+      rw (at-above first w v k (omega arith), at-inside (first + w) u (v / 2 ^ w) k (omega arith) i, at-inside first (w + u) v k (omega arith) (omega arith))
+      (ap (λ (n : ℕ). n % 2) (shr-shr v w (k - (first + w))) ∙ ap (λ (n : ℕ). v / 2 ^ n % 2) (sum k (omega arith)))
+    where
+      sum : (n : ℕ) → first + w ≤ n → w + (n - (first + w)) ≡ n - first
+      sum n h = omega arith
+  joined-bit k old (no l) (no d) (no i) =
+      rw (at-above first w v k (omega arith), at-above (first + w) u (v / 2 ^ w) k (omega arith), at-above first (w + u) v k (omega arith)) refl
+
+  makes-joined : (x y z : List ℕ) → Makes low x y → Makes high y z → Makes whole x z
+  makes-joined x y z e f =
+      makes-as (behind low high) whole x z (λ k old. joined-bit k old (decLt k first) (decLt k (first + w)) (decLt k (first + w + u)))
+      (makes-both low high x y z e f)
 
 -- ---- the places of a dot
 
@@ -159,7 +158,7 @@ level-makes image l s v h size small = go (wideOf image)
     word : (a : ℕ) → a + 1 < 908 → Makes (bitsFrom (8 * a + 0) 16 v) image (set (set image a (v % 256)) (a + 1) (v / 256 % 256))
     word a u =
         let low : Makes (bitsFrom (8 * a + 0) 8 v) image (set image a (v % 256)) = byte-makes image a v (8 * a + 0) h (omega arith) refl in
-        bits-joined (8 * a + 0) 8 8 v image (set image a (v % 256)) (set (set image a (v % 256)) (a + 1) (v / 256 % 256)) low
+        makes-joined (8 * a + 0) 8 8 v image (set image a (v % 256)) (set (set image a (v % 256)) (a + 1) (v / 256 % 256)) low
         (byte-makes (set image a (v % 256)) (a + 1) (v / 256) (8 * a + 0 + 8) (low .bytes) (omega (arith, length-set image a (v % 256))) (omega arith))
 
     go : (b : Bool) → Makes (placeChange (cond b Pwm16 Pwm8) l s v) image

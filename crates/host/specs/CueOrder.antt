@@ -6,6 +6,7 @@ use mathlib.Core.Bool.{Bool, true, not}
 use mathlib.Core.List.{List, [], _∷_}
 use Prim.Native.Nat.{ℕ, _<_}
 use lib.Dec.{eqb}
+use Rattle.map.specs.declared.refusals.Answer.{Answer}
 use Rattle.map.specs.Refusals.{accepted}
 use Rattle.map.specs.Map.{dotNumber}
 use Rattle.dots.specs.Dots.{wideOf}
@@ -40,9 +41,13 @@ lentWith (dot c l s v) = []
 lentWith (register a v) = []
 lentWith (scene bytes) = bytes
 
+-- what a record answers to it
+abbrev pub answerTo : Record → Cue → Answer
+answerTo r q = settingAnswer r (settingIn q) (lentWith q)
+
 -- "accepted": the record takes the call
 abbrev pub Takes : Record → Cue → Type 0
-Takes r q = accepted (settingAnswer r (settingIn q) (lentWith q)) ≡ true
+Takes r q = accepted (answerTo r q) ≡ true
 
 -- the record after a call, accepted or refused
 abbrev pub after : Record → Cue → Record
@@ -65,9 +70,7 @@ keepsMode (scene bytes) = true
 
 -- such a call, accepted or refused, changes no answer of another: whatever the order, the same calls are accepted
 abbrev pub AnswersStay : Type 0
-AnswersStay =
-    (r : Record) (p q : Cue) → keepsMode p ≡ true →
-    settingAnswer (after r p) (settingIn q) (lentWith q) ≡ settingAnswer r (settingIn q) (lentWith q)
+AnswersStay = (r : Record) (p q : Cue) → keepsMode p ≡ true → answerTo (after r p) q ≡ answerTo r q
 
 -- ---- Either order
 

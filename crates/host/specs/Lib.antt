@@ -6,5 +6,6 @@ pub mod SoundLaws
 pub mod SettingLaws
 pub mod SceneLaws
 pub mod CueOrder
+pub mod CueChanges
 pub mod CueLaws
 pub mod RecordExamples
