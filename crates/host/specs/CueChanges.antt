@@ -31,7 +31,7 @@ use Rattle.host.specs.RecordLaws.{register-taken, lamp-taken, FieldTaken
 use Rattle.host.specs.LockLaws.{place-high}
 use Rattle.host.specs.SoundLaws.{below, scene-image}
 use Rattle.host.specs.SceneLaws.{scene-mode}
-use Rattle.host.specs.CueOrder.{Sort, lamp, group, switch, Cue, dot, register, scene, settingIn, lentWith, keepsMode, NoDotInCommon}
+use Rattle.host.specs.CueOrder.{Sort, lamp, group, switch, CueCall, dot, register, scene, settingIn, lentWith, keepsMode, NoDotInCommon}
 
 -- ---- a call of a cue as a change
 
@@ -49,13 +49,13 @@ unfoldable pub sceneChange : Bool → List ℕ → ℕ → Change
 sceneChange wide bytes zero = noChange
 sceneChange wide bytes (suc n) = behind (sceneChange wide bytes n) (entryChange wide bytes n)
 
-unfoldable pub changeOf : Bool → Cue → Change
+unfoldable pub changeOf : Bool → CueCall → Change
 changeOf wide (dot c l s v) = placeChange (sortField wide c) l s v
 changeOf wide (register a v) = bitsFrom (8 * a) 8 v
 changeOf wide (scene bytes) = sceneChange wide bytes (sceneCount bytes)
 
 -- the settings that it puts
-abbrev pub put : List ℕ → Cue → List ℕ
+abbrev pub put : List ℕ → CueCall → List ℕ
 put settings q = putSetting settings (settingIn q) (lentWith q)
 
 pub image-bytes : (m : ℕ) (image : List ℕ) → Image m image → Bytes image
@@ -104,18 +104,18 @@ module _ (h : Header) where
       field-makes f settings l s v (image-bytes m settings i)
       (omega (arith, i .size, place-below f l s (omega (arith, dot-line m l s (t .dot), lines-most m)) (dot-sink m l s (t .dot)))) narrow (below w (t .fits))
 
-  pub cue-makes : (settings : List ℕ) → Image m settings → (q : Cue) → accepted (argumentsAnswer h settings (settingIn q) (lentWith q)) ≡ true →
+  pub call-makes : (settings : List ℕ) → Image m settings → (q : CueCall) → accepted (argumentsAnswer h settings (settingIn q) (lentWith q)) ≡ true →
       Makes (changeOf (wideOf settings) q) settings (put settings q)
   unfolding changeOf sortField argumentsAnswer putSetting
-  cue-makes settings i (dot lamp l s v) e =
+  call-makes settings i (dot lamp l s v) e =
       level-makes settings l s v (image-bytes m settings i) (i .size) (dot-number m l s (lamp-taken h settings l s v e .dot))
-  cue-makes settings i (dot group l s v) e = field-call fields.the-variants.Group settings l s v 3 i group-narrow group-width (field-taken h l s v 3 e)
-  cue-makes settings i (dot switch l s v) e = field-call fields.the-variants.Switch settings l s v 1 i switch-narrow switch-width (field-taken h l s v 1 e)
-  cue-makes settings i (register a v) e =
+  call-makes settings i (dot group l s v) e = field-call fields.the-variants.Group settings l s v 3 i group-narrow group-width (field-taken h l s v 3 e)
+  call-makes settings i (dot switch l s v) e = field-call fields.the-variants.Switch settings l s v 1 i switch-narrow switch-width (field-taken h l s v 1 e)
+  call-makes settings i (register a v) e =
       let t = register-taken h a v e in
       subst (λ (x : ℕ). Makes (bitsFrom (8 * a) 8 v) settings (set settings a x)) (mod-eq-of-lt (ok-fit m a v (t .fits) .byte))
       (byte-makes settings a v (8 * a) (image-bytes m settings i) (omega (arith, i .size, writable-below m a (t .writable))) (omega arith))
-  cue-makes settings i (scene bytes) e = scene-makes settings bytes i (scene-taken h settings bytes e) (sceneCount bytes) (omega arith)
+  call-makes settings i (scene bytes) e = scene-makes settings bytes i (scene-taken h settings bytes e) (sceneCount bytes) (omega arith)
 
 -- ---- calls that leave 001h
 
@@ -125,7 +125,7 @@ unfolding sceneChange
 scene-bits wide bytes zero k f = refl
 scene-bits wide bytes (suc n) k f = rw (scene-bits wide bytes n k (λ i h. f i (omega arith)), f n (omega arith)) refl
 
-mode-bits : (wide : Bool) (q : Cue) → keepsMode q ≡ true → (i : ℕ) → i < 8 → changeOf wide q .at (8 * 0x001 + i) ≡ false
+mode-bits : (wide : Bool) (q : CueCall) → keepsMode q ≡ true → (i : ℕ) → i < 8 → changeOf wide q .at (8 * 0x001 + i) ≡ false
 unfolding changeOf keepsMode
 mode-bits wide (dot c l s v) e i h = place-above (sortField wide c) l s v 0x001 i (omega (arith, place-high (sortField wide c) l s)) h
 mode-bits wide (register a v) e i h = other (decLt a 0x001) (eqb-false a 0x001 (not-true (eqb a 0x001) e))
@@ -139,7 +139,7 @@ mode-bits wide (scene bytes) e i h = scene-bits wide bytes (sceneCount bytes) (8
     above d v = place-above (levelField wide) (d / 18) (d % 18) v 0x001 i (omega (arith, place-high (levelField wide) (d / 18) (d % 18))) h
 
 -- so that settings which differ by such a call alone have levels of one width
-pub alike-width : (wide : Bool) (q : Cue) → keepsMode q ≡ true → (x y : List ℕ) → Alike (changeOf wide q) x y → wideOf x ≡ wideOf y
+pub alike-width : (wide : Bool) (q : CueCall) → keepsMode q ≡ true → (x y : List ℕ) → Alike (changeOf wide q) x y → wideOf x ≡ wideOf y
 unfolding wideOf
 alike-width wide q e x y a = ap (λ (v : ℕ). isWide (dataMode v)) (alike-byte (changeOf wide q) x y a 0x001 (mode-bits wide q e))
 

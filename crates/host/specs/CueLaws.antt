@@ -16,9 +16,9 @@ use Rattle.host.specs.Record.{recordOf, whenSound, lampAnswer, sceneAnsw
 use Rattle.host.specs.RecordLaws.{setting-taken, SceneTaken, scene-taken}
 use Rattle.host.specs.SoundLaws.{Sound, sound-is, is-sound, setting-sound}
 use Rattle.host.specs.SettingLaws.{setting-sets}
-use Rattle.host.specs.CueOrder.{Sort, lamp, group, switch, Cue, dot, register, scene, settingIn, lentWith, answerTo, Takes, after, afterAll, keepsMode}
+use Rattle.host.specs.CueOrder.{Sort, lamp, group, switch, CueCall, dot, register, scene, settingIn, lentWith, answerTo, Takes, after, afterAll, keepsMode}
 use Rattle.host.specs.CueOrder.{AnswersStay, EitherOrder, DotsInEitherOrder, ScenesInEitherOrder, SceneAndDotInEitherOrder, LaterStands, LaterLampStands, SceneTwice}
-use Rattle.host.specs.CueChanges.{sortField, changeOf, put, image-bytes, cue-makes, alike-width, dot-taken, dots-apart, scene-dot-apart, scenes-apart}
+use Rattle.host.specs.CueChanges.{sortField, changeOf, put, image-bytes, call-makes, alike-width, dot-taken, dots-apart, scene-dot-apart, scenes-apart}
 
 -- ---- what a call is answered
 
@@ -27,7 +27,7 @@ abbrev width : Record → Bool
 width r = wideOf (r .settings)
 
 -- it goes by nothing of the settings but the width of their levels
-answer-by-width : (h : Header) (x y : List ℕ) → wideOf x ≡ wideOf y → (q : Cue) →
+answer-by-width : (h : Header) (x y : List ℕ) → wideOf x ≡ wideOf y → (q : CueCall) →
     argumentsAnswer h x (settingIn q) (lentWith q) ≡ argumentsAnswer h y (settingIn q) (lentWith q)
 unfolding argumentsAnswer lampAnswer sceneAnswer topLevel
 answer-by-width h x y e (dot lamp l s v) = rw e refl
@@ -37,22 +37,22 @@ answer-by-width h x y e (register a v) = refl
 answer-by-width h x y e (scene bytes) = rw e refl
 
 -- of a sound record it is that of the arguments
-sound-answer : (r : Record) → Sound r → (q : Cue) → answerTo r q ≡ argumentsAnswer (r .header) (r .settings) (settingIn q) (lentWith q)
+sound-answer : (r : Record) → Sound r → (q : CueCall) → answerTo r q ≡ argumentsAnswer (r .header) (r .settings) (settingIn q) (lentWith q)
 unfolding settingAnswer whenSound
 sound-answer r s q = rw (is-sound r s) refl
 
 -- ---- twins: a record in which a call was made, and one in which it was not
 
 -- what an accepted call leaves
-taken-after : (r : Record) (q : Cue) → Takes r q → after r q ≡ recordOf (r .header) (put (r .settings) q) (r .image)
+taken-after : (r : Record) (q : CueCall) → Takes r q → after r q ≡ recordOf (r .header) (put (r .settings) q) (r .image)
 taken-after r q t = setting-sets r (settingIn q) (lentWith q) .accepts t
 
-taken-makes : (r : Record) (q : Cue) → Takes r q → Makes (changeOf (width r) q) (r .settings) (put (r .settings) q)
+taken-makes : (r : Record) (q : CueCall) → Takes r q → Makes (changeOf (width r) q) (r .settings) (put (r .settings) q)
 taken-makes r q t =
     let k = setting-taken r (settingIn q) (lentWith q) t in
-    cue-makes (r .header) (r .settings) (sound-is r (k .0) .settings) q (k .1)
+    call-makes (r .header) (r .settings) (sound-is r (k .0) .settings) q (k .1)
 
-module _ (wide : Bool) (p : Cue) (keeps : keepsMode p ≡ true) where
+module _ (wide : Bool) (p : CueCall) (keeps : keepsMode p ≡ true) where
   -- they are alike outside of the call's bits
   record Twins (r t : Record) : Type 0 where
     header : r .header ≡ t .header
@@ -65,7 +65,7 @@ module _ (wide : Bool) (p : Cue) (keeps : keepsMode p ≡ true) where
   twins-width r t w = alike-width wide p keeps (r .settings) (t .settings) (w .alike)
 
   -- so that both answer any call the same,
-  twins-answer : (r t : Record) → Twins r t → (q : Cue) → answerTo r q ≡ answerTo t q
+  twins-answer : (r t : Record) → Twins r t → (q : CueCall) → answerTo r q ≡ answerTo t q
   twins-answer r t w q =
       sound-answer r (w .first) q
       ∙ ap (λ (h : Header). argumentsAnswer h (r .settings) (settingIn q) (lentWith q)) (w .header)
@@ -73,7 +73,7 @@ module _ (wide : Bool) (p : Cue) (keeps : keepsMode p ≡ true) where
       ∙ sym (sound-answer t (w .second) q)
 
   -- and stay twins behind it
-  twins-step : (r t : Record) → Twins r t → (q : Cue) → Twins (after r q) (after t q)
+  twins-step : (r t : Record) → Twins r t → (q : CueCall) → Twins (after r q) (after t q)
   unfolding settingOf changedTo
   twins-step r t w q = record {
     header = w .header;
@@ -91,12 +91,12 @@ module _ (wide : Bool) (p : Cue) (keeps : keepsMode p ≡ true) where
           (subst (λ (b : Bool). Makes (changeOf b q) (t .settings) (put (t .settings) q)) (sym (twins-width r t w)) (taken-makes t q (ap accepted (sym (twins-answer r t w q)) ∙ e)))
       go false e = w .alike
 
-  twins-all : (r t : Record) → Twins r t → (qs : List Cue) → Twins (afterAll r qs) (afterAll t qs)
+  twins-all : (r t : Record) → Twins r t → (qs : List CueCall) → Twins (afterAll r qs) (afterAll t qs)
   twins-all r t w [] = w
   twins-all r t w (q ∷ qs) = twins-all (after r q) (after t q) (twins-step r t w q) qs
 
 -- a record and the one behind an accepted call are twins
-twins-start : (p : Cue) (keeps : keepsMode p ≡ true) (r : Record) → Takes r p → Twins (width r) p keeps r (after r p)
+twins-start : (p : CueCall) (keeps : keepsMode p ≡ true) (r : Record) → Takes r p → Twins (width r) p keeps r (after r p)
 twins-start p keeps r t =
     let s : Sound r = sound-is r (setting-taken r (settingIn p) (lentWith p) t .0) in
     record {
@@ -108,27 +108,34 @@ twins-start p keeps r t =
           (makes-alike (changeOf (width r) p) (r .settings) (put (r .settings) p) (image-bytes (r .header .member) (r .settings) (s .settings)) (taken-makes r p t));
     }
 
+-- so a call that leaves 001h changes no answer, accepted or refused
+pub answers-stay : AnswersStay
+answers-stay r p q keeps = go (accepted (answerTo r p)) refl
+  where
+    go : (b : Bool) → accepted (answerTo r p) ≡ b → answerTo (after r p) q ≡ answerTo r q
+    go true t = sym (twins-answer (width r) p keeps r (after r p) (twins-start p keeps r t) q)
+    go false t = ap (λ (x : Record). answerTo x q) (setting-sets r (settingIn p) (lentWith p) .refuses t)
+
+taken-without : (r : Record) (p q : CueCall) → keepsMode p ≡ true → Takes (after r p) q → Takes r q
+taken-without r p q keeps t = ap accepted (sym (answers-stay r p q keeps)) ∙ t
+
+taken-behind : (r : Record) (p q : CueCall) → keepsMode p ≡ true → Takes r q → Takes (after r p) q
+taken-behind r p q keeps t = ap accepted (answers-stay r p q keeps) ∙ t
+
 -- ---- either order
 
 -- b on the settings that a left: a change for settings of the old width
-next-makes : (r : Record) (a b : Cue) → keepsMode a ≡ true → Takes r a → Takes (after r a) b →
+next-makes : (r : Record) (a b : CueCall) → keepsMode a ≡ true → Takes r a → Takes (after r a) b →
     Makes (changeOf (width r) b) (put (r .settings) a) (put (put (r .settings) a) b)
 next-makes r a b keeps ta tb =
     subst (λ (x : Record). Makes (changeOf (width r) b) (x .settings) (put (x .settings) b)) (taken-after r a ta)
     (subst (λ (w : Bool). Makes (changeOf w b) (after r a .settings) (put (after r a .settings) b))
     (sym (twins-width (width r) a keeps r (after r a) (twins-start a keeps r ta))) (taken-makes (after r a) b tb))
 
--- what is accepted behind a is accepted without it, and what is accepted without it is accepted behind it
-taken-without : (r : Record) (a b : Cue) → keepsMode a ≡ true → Takes r a → Takes (after r a) b → Takes r b
-taken-without r a b keeps ta tb = ap accepted (twins-answer (width r) a keeps r (after r a) (twins-start a keeps r ta) b) ∙ tb
-
-taken-behind : (r : Record) (a b : Cue) → keepsMode a ≡ true → Takes r a → Takes r b → Takes (after r a) b
-taken-behind r a b keeps ta tb = ap accepted (sym (twins-answer (width r) a keeps r (after r a) (twins-start a keeps r ta) b)) ∙ tb
-
 -- two calls at different bits
-cues-either-order : (r : Record) (p q : Cue) → keepsMode p ≡ true → keepsMode q ≡ true →
+calls-either-order : (r : Record) (p q : CueCall) → keepsMode p ≡ true → keepsMode q ≡ true →
     DifferentBits (changeOf (width r) p) (changeOf (width r) q) → Takes r p → Takes (after r p) q → EitherOrder r p q
-cues-either-order r p q kp kq apart tp tq = record {
+calls-either-order r p q kp kq apart tp tq = record {
   first = first;
   second = second;
   same =
@@ -141,18 +148,18 @@ cues-either-order r p q kp kq apart tp tq = record {
 }
   where
     first : Takes r q
-    first = taken-without r p q kp tp tq
+    first = taken-without r p q kp tq
 
     second : Takes (after r q) p
-    second = taken-behind r q p kq first tp
+    second = taken-behind r q p kq tp
 
-    both : (a b : Cue) → Takes r a → Takes (after r a) b → after (after r a) b ≡ recordOf (r .header) (put (put (r .settings) a) b) (r .image)
+    both : (a b : CueCall) → Takes r a → Takes (after r a) b → after (after r a) b ≡ recordOf (r .header) (put (put (r .settings) a) b) (r .image)
     both a b ta tb = taken-after (after r a) b tb ∙ ap (λ (x : Record). recordOf (x .header) (put (x .settings) b) (x .image)) (taken-after r a ta)
 
 -- ---- the later one
 
 -- a call that has all the bits of an earlier one
-later-stands : (r : Record) (p q : Cue) (between : List Cue) → keepsMode p ≡ true → Takes r p → Takes (afterAll (after r p) between) q →
+later-stands : (r : Record) (p q : CueCall) (between : List CueCall) → keepsMode p ≡ true → Takes r p → Takes (afterAll (after r p) between) q →
     Covers (changeOf (width (afterAll (after r p) between)) q) (changeOf (width r) p) → LaterStands r p between q
 later-stands r p q between keeps tp tq covers = record {
   alone = alone;
@@ -186,37 +193,29 @@ scene-there : (r : Record) (bytes : List ℕ) → Takes r (scene bytes) → Scen
 unfolding argumentsAnswer
 scene-there r bytes t = scene-taken (r .header) (r .settings) bytes (setting-taken r (settingIn (scene bytes)) bytes t .1)
 
-pub answers-stay : AnswersStay
-answers-stay r p q keeps = go (accepted (answerTo r p)) refl
-  where
-    go : (b : Bool) → accepted (answerTo r p) ≡ b →
-        answerTo (after r p) q ≡ answerTo r q
-    go true t = sym (twins-answer (width r) p keeps r (after r p) (twins-start p keeps r t) q)
-    go false t = ap (λ (x : Record). answerTo x q) (setting-sets r (settingIn p) (lentWith p) .refuses t)
-
 -- "two accepted Lamp, Group or Switch calls on different dots, or of different sorts, give the same record in either order"
 pub dots-in-either-order : DotsInEitherOrder
 unfolding keepsMode
 dots-in-either-order r c d l s v k t w n tp tq =
-    cues-either-order r (dot c l s v) (dot d k t w) refl refl
+    calls-either-order r (dot c l s v) (dot d k t w) refl refl
     (dots-apart (width r) (r .header .member) c d l s v k t w n (dot-there r c l s v tp)
-    (dot-there r d k t w (taken-without r (dot c l s v) (dot d k t w) refl tp tq))) tp tq
+    (dot-there r d k t w (taken-without r (dot c l s v) (dot d k t w) refl tq))) tp tq
 
 -- "two scenes with no dot in common change places freely"
 pub scenes-in-either-order : ScenesInEitherOrder
 unfolding keepsMode
 scenes-in-either-order r one other n tp tq =
-    cues-either-order r (scene one) (scene other) refl refl
+    calls-either-order r (scene one) (scene other) refl refl
     (scenes-apart (width r) (r .header .member) one other (scene-there r one tp .dots)
-    (scene-there r other (taken-without r (scene one) (scene other) refl tp tq) .dots) n) tp tq
+    (scene-there r other (taken-without r (scene one) (scene other) refl tq) .dots) n) tp tq
 
 pub scene-and-dot-in-either-order : SceneAndDotInEitherOrder
 unfolding keepsMode
 scene-and-dot-in-either-order r bytes c l s v n tp tq =
-    cues-either-order r (scene bytes) (dot c l s v) refl refl
+    calls-either-order r (scene bytes) (dot c l s v) refl refl
     (different-swapped (changeOf (width r) (dot c l s v)) (changeOf (width r) (scene bytes))
     (scene-dot-apart (width r) (r .header .member) c l s v bytes
-    (dot-there r c l s v (taken-without r (scene bytes) (dot c l s v) refl tp tq)) (scene-there r bytes tp .dots) n)) tp tq
+    (dot-there r c l s v (taken-without r (scene bytes) (dot c l s v) refl tq)) (scene-there r bytes tp .dots) n)) tp tq
 
 -- "of two accepted Lamp calls on one dot in one data mode the later one stands"
 pub later-lamp-stands : LaterLampStands
@@ -231,7 +230,7 @@ unfolding keepsMode
 scene-twice r bytes t = (again, later-stands r (scene bytes) (scene bytes) [] refl t again covers .same)
   where
     again : Takes (after r (scene bytes)) (scene bytes)
-    again = taken-behind r (scene bytes) (scene bytes) refl t t
+    again = taken-behind r (scene bytes) (scene bytes) refl t
 
     covers : Covers (changeOf (width (after r (scene bytes))) (scene bytes)) (changeOf (width r) (scene bytes))
     covers =

@@ -22,13 +22,13 @@ pub data Sort : Type 0 where
   lamp group switch : Sort
 
 -- a call of a cue, with its arguments: one on a dot, with its sort, line, sink and value; a Register; a Scene, with its bytes
-pub data Cue : Type 0 where
-  dot : Sort → ℕ → ℕ → ℕ → Cue
-  register : ℕ → ℕ → Cue
-  scene : List ℕ → Cue
+pub data CueCall : Type 0 where
+  dot : Sort → ℕ → ℕ → ℕ → CueCall
+  register : ℕ → ℕ → CueCall
+  scene : List ℕ → CueCall
 
 -- the setting that it is
-abbrev pub settingIn : Cue → Setting
+abbrev pub settingIn : CueCall → Setting
 settingIn (dot lamp l s v) = Lamp l s v
 settingIn (dot group l s v) = Group l s v
 settingIn (dot switch l s v) = Switch l s v
@@ -36,25 +36,25 @@ settingIn (register a v) = Register a v
 settingIn (scene bytes) = Scene
 
 -- and the bytes that are lent with it
-abbrev pub lentWith : Cue → List ℕ
+abbrev pub lentWith : CueCall → List ℕ
 lentWith (dot c l s v) = []
 lentWith (register a v) = []
 lentWith (scene bytes) = bytes
 
 -- what a record answers to it
-abbrev pub answerTo : Record → Cue → Answer
+abbrev pub answerTo : Record → CueCall → Answer
 answerTo r q = settingAnswer r (settingIn q) (lentWith q)
 
 -- "accepted": the record takes the call
-abbrev pub Takes : Record → Cue → Type 0
+abbrev pub Takes : Record → CueCall → Type 0
 Takes r q = accepted (answerTo r q) ≡ true
 
 -- the record after a call, accepted or refused
-abbrev pub after : Record → Cue → Record
+abbrev pub after : Record → CueCall → Record
 after r q = settingOf r (settingIn q) (lentWith q) .host
 
 -- and after several
-abbrev pub afterAll : Record → List Cue → Record
+abbrev pub afterAll : Record → List CueCall → Record
 afterAll r [] = r
 afterAll r (q ∷ qs) = afterAll (after r q) qs
 
@@ -63,19 +63,19 @@ afterAll r (q ∷ qs) = afterAll (after r q) qs
 -- ---- Answers
 
 -- calls that leave 001h, where the data mode stands
-unfoldable pub keepsMode : Cue → Bool
+unfoldable pub keepsMode : CueCall → Bool
 keepsMode (dot c l s v) = true
 keepsMode (register a v) = not (eqb a 0x001)
 keepsMode (scene bytes) = true
 
 -- such a call, accepted or refused, changes no answer of another: whatever the order, the same calls are accepted
 abbrev pub AnswersStay : Type 0
-AnswersStay = (r : Record) (p q : Cue) → keepsMode p ≡ true → answerTo (after r p) q ≡ answerTo r q
+AnswersStay = (r : Record) (p q : CueCall) → keepsMode p ≡ true → answerTo (after r p) q ≡ answerTo r q
 
 -- ---- Either order
 
 -- p and then q were accepted. In the other order they are accepted too, and "give the same record".
-pub record EitherOrder (r : Record) (p q : Cue) : Type 0 where
+pub record EitherOrder (r : Record) (p q : CueCall) : Type 0 where
   pub first : Takes r q
   pub second : Takes (after r q) p
   pub same : after (after r p) q ≡ after (after r q) p
@@ -106,7 +106,7 @@ SceneAndDotInEitherOrder =
 -- ---- The later one
 
 -- p, the calls between and then q were made. Without p the record at the end is the same, and q is accepted too.
-pub record LaterStands (r : Record) (p : Cue) (between : List Cue) (q : Cue) : Type 0 where
+pub record LaterStands (r : Record) (p : CueCall) (between : List CueCall) (q : CueCall) : Type 0 where
   pub alone : Takes (afterAll r between) q
   pub same : after (afterAll (after r p) between) q ≡ after (afterAll r between) q
 
@@ -114,7 +114,7 @@ pub record LaterStands (r : Record) (p : Cue) (between : List Cue) (q : Cue) : T
 -- count as one here, and 2 and 3, since they have their levels at the same places.
 abbrev pub LaterLampStands : Type 0
 LaterLampStands =
-    (r : Record) (l s v w : ℕ) (between : List Cue) →
+    (r : Record) (l s v w : ℕ) (between : List CueCall) →
     Takes r (dot lamp l s v) → Takes (afterAll (after r (dot lamp l s v)) between) (dot lamp l s w) →
     wideOf (r .settings) ≡ wideOf (afterAll (after r (dot lamp l s v)) between .settings) → LaterStands r (dot lamp l s v) between (dot lamp l s w)
 

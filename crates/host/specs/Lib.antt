@@ -8,4 +8,5 @@ pub mod SceneLaws
 pub mod CueOrder
 pub mod CueChanges
 pub mod CueLaws
+pub mod CueExamples
 pub mod RecordExamples
