@@ -21,6 +21,7 @@ void group_transactions(void);
 void group_stores(void);
 void group_locks(void);
 void group_faults(void);
+void group_order(uint64_t seed);
 void group_histories(uint64_t seed);
 void group_rounds(uint64_t seed);
 void group_cplusplus(void);

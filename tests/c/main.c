@@ -29,6 +29,7 @@ int main(int count, char **arguments)
     group_locks();
     group_faults();
     group_cplusplus();
+    group_order(strtoull(arguments[2], NULL, 0));
     group_histories(strtoull(arguments[2], NULL, 0));
     group_rounds(strtoull(arguments[2], NULL, 0));
     return checks_result();
