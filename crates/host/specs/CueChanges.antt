@@ -30,7 +30,7 @@ use Rattle.host.specs.Record.{argumentsAnswer, putSetting, sceneCount, s
 use Rattle.host.specs.RecordLaws.{register-taken, lamp-taken, FieldTaken, field-taken, SceneTaken, scene-taken}
 use Rattle.host.specs.LockLaws.{place-high}
 use Rattle.host.specs.SoundLaws.{below, scene-image}
-use Rattle.host.specs.SceneLaws.{scene-mode}
+use Rattle.host.specs.SceneLaws.{scene-mode, numbered}
 use Rattle.host.specs.CueOrder.{Sort, lamp, group, switch, CueCall, dot, register, scene, settingIn, lentWith, keepsMode, NoDotInCommon}
 
 -- ---- a call of a cue as a change
@@ -41,7 +41,7 @@ sortField wide lamp = levelField wide
 sortField wide group = fields.the-variants.Group
 sortField wide switch = fields.the-variants.Switch
 
--- the level of entry i of a scene, and the first n entries
+-- what the level of entry i of a scene changes, and what the first n entries do
 abbrev pub entryChange : Bool → List ℕ → ℕ → Change
 entryChange wide bytes i = placeChange (levelField wide) (sceneDot bytes i / 18) (sceneDot bytes i % 18) (sceneLevel bytes i)
 
@@ -49,15 +49,17 @@ unfoldable pub sceneChange : Bool → List ℕ → ℕ → Change
 sceneChange wide bytes zero = noChange
 sceneChange wide bytes (suc n) = behind (sceneChange wide bytes n) (entryChange wide bytes n)
 
+-- what a call changes, where levels have 16 bits or 8
 unfoldable pub changeOf : Bool → CueCall → Change
 changeOf wide (dot c l s v) = placeChange (sortField wide c) l s v
 changeOf wide (register a v) = bitsFrom (8 * a) 8 v
 changeOf wide (scene bytes) = sceneChange wide bytes (sceneCount bytes)
 
--- the settings that it puts
+-- the settings that it leaves, where it is accepted
 abbrev pub put : List ℕ → CueCall → List ℕ
 put settings q = putSetting settings (settingIn q) (lentWith q)
 
+-- an image has bytes, and 0 is read behind its end
 pub image-bytes : (m : ℕ) (image : List ℕ) → Image m image → Bytes image
 image-bytes m image i a = go (decLt a 908)
   where
@@ -69,10 +71,7 @@ module _ (h : Header) where
   abbrev m : ℕ
   m = h .member
 
-  -- a dot's number from its line and sink
-  numbered : (d : ℕ) → dotNumber (d / 18) (d % 18) ≡ d
-  numbered d = omega arith
-
+  -- a scene's first n entries, one behind the other
   scene-makes : (settings bytes : List ℕ) → Image m settings → SceneTaken h settings bytes → (n : ℕ) → n ≤ sceneCount bytes →
       Makes (sceneChange (wideOf settings) bytes n) settings (putScene bytes settings n)
   unfolding sceneChange putScene sceneHasDot
@@ -104,6 +103,7 @@ module _ (h : Header) where
       field-makes f settings l s v (image-bytes m settings i)
       (omega (arith, i .size, place-below f l s (omega (arith, dot-line m l s (t .dot), lines-most m)) (dot-sink m l s (t .dot)))) narrow (below w (t .fits))
 
+  -- an accepted call makes its change
   pub call-makes : (settings : List ℕ) → Image m settings → (q : CueCall) → accepted (argumentsAnswer h settings (settingIn q) (lentWith q)) ≡ true →
       Makes (changeOf (wideOf settings) q) settings (put settings q)
   unfolding changeOf sortField argumentsAnswer putSetting
@@ -119,12 +119,14 @@ module _ (h : Header) where
 
 -- ---- calls that leave 001h
 
--- they have no bit of it
-scene-bits : (wide : Bool) (bytes : List ℕ) (n k : ℕ) → ((i : ℕ) → i < n → entryChange wide bytes i .at k ≡ false) → sceneChange wide bytes n .at k ≡ false
+-- a scene has no bit that none of its entries has
+scene-bits : (wide : Bool) (bytes : List ℕ) (n k : ℕ) → ((i : ℕ) → i < n → entryChange wide bytes i .at k ≡ false) →
+    sceneChange wide bytes n .at k ≡ false
 unfolding sceneChange
 scene-bits wide bytes zero k f = refl
 scene-bits wide bytes (suc n) k f = rw (scene-bits wide bytes n k (λ i h. f i (omega arith)), f n (omega arith)) refl
 
+-- they have no bit of 001h
 mode-bits : (wide : Bool) (q : CueCall) → keepsMode q ≡ true → (i : ℕ) → i < 8 → changeOf wide q .at (8 * 0x001 + i) ≡ false
 unfolding changeOf keepsMode
 mode-bits wide (dot c l s v) e i h = place-above (sortField wide c) l s v 0x001 i (omega (arith, place-high (sortField wide c) l s)) h
@@ -156,13 +158,15 @@ sort-area false lamp = refl
 sort-area wide group = refl
 sort-area wide switch = refl
 
-pub dot-taken : (h : Header) (settings : List ℕ) (c : Sort) (l s v : ℕ) → accepted (argumentsAnswer h settings (settingIn (dot c l s v)) []) ≡ true → isDot (h .member) l s ≡ true
+-- an accepted call on a dot is on one that is there
+pub dot-taken : (h : Header) (settings : List ℕ) (c : Sort) (l s v : ℕ) →
+    accepted (argumentsAnswer h settings (settingIn (dot c l s v)) []) ≡ true → isDot (h .member) l s ≡ true
 unfolding argumentsAnswer
 dot-taken h settings lamp l s v e = lamp-taken h settings l s v e .dot
 dot-taken h settings group l s v e = field-taken h l s v 3 e .dot
 dot-taken h settings switch l s v e = field-taken h l s v 1 e .dot
 
--- two dots of a member, or fields of different sorts
+-- calls on two dots of a member, or of two sorts
 pub dots-apart : (wide : Bool) (m : ℕ) (c d : Sort) (l s v k t w : ℕ) → (c ≡ d → l ≡ k → s ≡ t → ⊥) → isDot m l s ≡ true → isDot m k t ≡ true →
     DifferentBits (changeOf wide (dot c l s v)) (changeOf wide (dot d k t w))
 unfolding changeOf
@@ -179,8 +183,9 @@ scene-apart : (c : Change) (wide : Bool) (bytes : List ℕ) (n : ℕ) → ((i : 
     DifferentBits c (sceneChange wide bytes n)
 scene-apart c wide bytes n f k e = scene-bits wide bytes n k (λ i h. f i h k e)
 
--- a dot's call, where the dot is in no entry
-pub scene-dot-apart : (wide : Bool) (m : ℕ) (c : Sort) (l s v : ℕ) (bytes : List ℕ) → isDot m l s ≡ true → allFrom (sceneHasDot m bytes) 0 (sceneCount bytes) ≡ true →
+-- a scene and a call on a dot, unless that is a Lamp on a dot of the scene
+pub scene-dot-apart : (wide : Bool) (m : ℕ) (c : Sort) (l s v : ℕ) (bytes : List ℕ) → isDot m l s ≡ true →
+    allFrom (sceneHasDot m bytes) 0 (sceneCount bytes) ≡ true →
     (c ≡ lamp → (i : ℕ) → i < sceneCount bytes → sceneDot bytes i ≡ dotNumber l s → ⊥) →
     DifferentBits (changeOf wide (dot c l s v)) (changeOf wide (scene bytes))
 unfolding changeOf sortField sceneHasDot numberIn isDot
@@ -193,7 +198,7 @@ scene-dot-apart wide m c l s v bytes there dots n =
     number : (d : ℕ) → l ≡ d / 18 → s ≡ d % 18 → d ≡ dotNumber l s
     number d el es = omega arith
 
--- and of two scenes each entry of the one
+-- two scenes with no dot in common
 pub scenes-apart : (wide : Bool) (m : ℕ) (one other : List ℕ) → allFrom (sceneHasDot m one) 0 (sceneCount one) ≡ true →
     allFrom (sceneHasDot m other) 0 (sceneCount other) ≡ true → NoDotInCommon one other → DifferentBits (changeOf wide (scene one)) (changeOf wide (scene other))
 unfolding changeOf sortField sceneHasDot numberIn isDot
@@ -203,7 +208,4 @@ scenes-apart wide m one other dots others n =
     (λ i h. different-swapped (entryChange wide one i) (changeOf wide (scene other))
     (scene-dot-apart wide m lamp (sceneDot one i / 18) (sceneDot one i % 18) (sceneLevel one i) other
     (all-at (sceneHasDot m one) 0 (sceneCount one) dots i (omega arith) (omega arith)) others
-    (λ e j u q. n i j h u (sym (q ∙ number (sceneDot one i)))))))
-  where
-    number : (d : ℕ) → dotNumber (d / 18) (d % 18) ≡ d
-    number d = omega arith
+    (λ e j u q. n i j h u (sym (q ∙ numbered (sceneDot one i)))))))

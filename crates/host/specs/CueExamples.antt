@@ -16,7 +16,6 @@ settings v = 0x00 ∷ v ∷ replicate 906 0x00
 
 -- the settings after these calls
 putAll : List ℕ → List CueCall → List ℕ
-unfolding putSetting putScene sceneWord sceneDot sceneLevel
 putAll x [] = x
 putAll x (q ∷ qs) = putAll (putSetting x (settingIn q) (lentWith q)) qs
 
@@ -42,15 +41,14 @@ one-dot : (levelOf (putAll (settings 0x58) (dot lamp 0 5 0x10 ∷ dot lamp 0 5 0
 unfolding putAll settings first second putSetting putScene sceneWord sceneDot sceneLevel putLevel levelOf wideOf isWide dataMode
 one-dot = (refl, refl, refl, refl)
 
--- between them another data mode: of a level that was put with 16 bits a later one of 8 bits leaves 202h and 203h
-two-modes : (map (λ (a : ℕ). getD (putAll (settings 0x5E) (dot lamp 0 1 0x1234 ∷ register 0x001 0x58 ∷ dot lamp 0 1 0x56 ∷ [])) a 0) (0x201 ∷ 0x202 ∷ 0x203 ∷ [])
-    ≡ 0x56 ∷ 0x34 ∷ 0x12 ∷ [])
-    × (map (λ (a : ℕ). getD (putAll (settings 0x5E) (register 0x001 0x58 ∷ dot lamp 0 1 0x56 ∷ [])) a 0) (0x201 ∷ 0x202 ∷ 0x203 ∷ []) ≡ 0x56 ∷ 0x00 ∷ 0x00 ∷ [])
-unfolding putAll settings putSetting putLevel wideOf isWide dataMode
-two-modes = (refl, refl)
+-- where dot 1 has its level with 8 bits, and with 16
+levelBytes : List ℕ → List ℕ
+levelBytes x = map (λ (a : ℕ). getD x a 0) (0x201 ∷ 0x202 ∷ 0x203 ∷ [])
 
--- and there and back: 16 bits again, so that the later one stands whole
-mode-again : map (λ (a : ℕ). getD (putAll (settings 0x5E) (dot lamp 0 1 0x1234 ∷ register 0x001 0x58 ∷ register 0x001 0x5C ∷ dot lamp 0 1 0x56 ∷ [])) a 0) (0x201 ∷ 0x202 ∷ 0x203 ∷ [])
-    ≡ 0x00 ∷ 0x56 ∷ 0x00 ∷ []
-unfolding putAll settings putSetting putLevel wideOf isWide dataMode
-mode-again = refl
+-- Between two Lamps another data mode: of a level that was put with 16 bits a later one of 8 bits leaves 202h and 203h. In data mode 2 there are
+-- 16 bits again, and the later one stands alone.
+two-modes : (levelBytes (putAll (settings 0x5E) (dot lamp 0 1 0x1234 ∷ register 0x001 0x58 ∷ dot lamp 0 1 0x56 ∷ [])) ≡ 0x56 ∷ 0x34 ∷ 0x12 ∷ [])
+    × (levelBytes (putAll (settings 0x5E) (register 0x001 0x58 ∷ dot lamp 0 1 0x56 ∷ [])) ≡ 0x56 ∷ 0x00 ∷ 0x00 ∷ [])
+    × (levelBytes (putAll (settings 0x5E) (dot lamp 0 1 0x1234 ∷ register 0x001 0x58 ∷ register 0x001 0x5C ∷ dot lamp 0 1 0x56 ∷ [])) ≡ 0x00 ∷ 0x56 ∷ 0x00 ∷ [])
+unfolding putAll settings levelBytes putSetting putLevel wideOf isWide dataMode
+two-modes = (refl, refl, refl)

@@ -22,9 +22,9 @@ use Rattle.host.specs.CueChanges.{sortField, changeOf, put, image-bytes,
 
 -- ---- what a call is answered
 
--- whether the levels of a record's settings have 16 bits
-abbrev width : Record → Bool
-width r = wideOf (r .settings)
+-- "mode 2 or 3 holds 16 bits": whether the levels of a record's settings have so many
+abbrev wideIn : Record → Bool
+wideIn r = wideOf (r .settings)
 
 -- it goes by nothing of the settings but the width of their levels
 answer-by-width : (h : Header) (x y : List ℕ) → wideOf x ≡ wideOf y → (q : CueCall) →
@@ -47,7 +47,7 @@ sound-answer r s q = rw (is-sound r s) refl
 taken-after : (r : Record) (q : CueCall) → Takes r q → after r q ≡ recordOf (r .header) (put (r .settings) q) (r .image)
 taken-after r q t = setting-sets r (settingIn q) (lentWith q) .accepts t
 
-taken-makes : (r : Record) (q : CueCall) → Takes r q → Makes (changeOf (width r) q) (r .settings) (put (r .settings) q)
+taken-makes : (r : Record) (q : CueCall) → Takes r q → Makes (changeOf (wideIn r) q) (r .settings) (put (r .settings) q)
 taken-makes r q t =
     let k = setting-taken r (settingIn q) (lentWith q) t in
     call-makes (r .header) (r .settings) (sound-is r (k .0) .settings) q (k .1)
@@ -61,7 +61,7 @@ module _ (wide : Bool) (p : CueCall) (keeps : keepsMode p ≡ true) where
     second : Sound t
     alike : Alike (changeOf wide p) (r .settings) (t .settings)
 
-  twins-width : (r t : Record) → Twins r t → width r ≡ width t
+  twins-width : (r t : Record) → Twins r t → wideIn r ≡ wideIn t
   twins-width r t w = alike-width wide p keeps (r .settings) (t .settings) (w .alike)
 
   -- so that both answer any call the same,
@@ -86,9 +86,10 @@ module _ (wide : Bool) (p : CueCall) (keeps : keepsMode p ≡ true) where
       go : (b : Bool) → accepted (answerTo r q) ≡ b →
           Alike (changeOf wide p) (cond b (put (r .settings) q) (r .settings)) (cond b (put (t .settings) q) (t .settings))
       go true e =
-          alike-stays (changeOf wide p) (changeOf (width r) q) (r .settings) (t .settings) (put (r .settings) q) (put (t .settings) q) (w .alike)
+          alike-stays (changeOf wide p) (changeOf (wideIn r) q) (r .settings) (t .settings) (put (r .settings) q) (put (t .settings) q) (w .alike)
           (taken-makes r q e)
-          (subst (λ (b : Bool). Makes (changeOf b q) (t .settings) (put (t .settings) q)) (sym (twins-width r t w)) (taken-makes t q (ap accepted (sym (twins-answer r t w q)) ∙ e)))
+          (subst (λ (b : Bool). Makes (changeOf b q) (t .settings) (put (t .settings) q)) (sym (twins-width r t w))
+          (taken-makes t q (ap accepted (sym (twins-answer r t w q)) ∙ e)))
       go false e = w .alike
 
   twins-all : (r t : Record) → Twins r t → (qs : List CueCall) → Twins (afterAll r qs) (afterAll t qs)
@@ -96,7 +97,7 @@ module _ (wide : Bool) (p : CueCall) (keeps : keepsMode p ≡ true) where
   twins-all r t w (q ∷ qs) = twins-all (after r q) (after t q) (twins-step r t w q) qs
 
 -- a record and the one behind an accepted call are twins
-twins-start : (p : CueCall) (keeps : keepsMode p ≡ true) (r : Record) → Takes r p → Twins (width r) p keeps r (after r p)
+twins-start : (p : CueCall) (keeps : keepsMode p ≡ true) (r : Record) → Takes r p → Twins (wideIn r) p keeps r (after r p)
 twins-start p keeps r t =
     let s : Sound r = sound-is r (setting-taken r (settingIn p) (lentWith p) t .0) in
     record {
@@ -104,8 +105,8 @@ twins-start p keeps r t =
       image = ap (λ (x : Record). x .image) (sym (taken-after r p t));
       first = s;
       second = setting-sound r (settingIn p) (lentWith p) s;
-      alike = subst (λ (x : Record). Alike (changeOf (width r) p) (r .settings) (x .settings)) (sym (taken-after r p t))
-          (makes-alike (changeOf (width r) p) (r .settings) (put (r .settings) p) (image-bytes (r .header .member) (r .settings) (s .settings)) (taken-makes r p t));
+      alike = subst (λ (x : Record). Alike (changeOf (wideIn r) p) (r .settings) (x .settings)) (sym (taken-after r p t))
+          (makes-alike (changeOf (wideIn r) p) (r .settings) (put (r .settings) p) (image-bytes (r .header .member) (r .settings) (s .settings)) (taken-makes r p t));
     }
 
 -- so a call that leaves 001h changes no answer, accepted or refused
@@ -113,7 +114,7 @@ pub answers-stay : AnswersStay
 answers-stay r p q keeps = go (accepted (answerTo r p)) refl
   where
     go : (b : Bool) → accepted (answerTo r p) ≡ b → answerTo (after r p) q ≡ answerTo r q
-    go true t = sym (twins-answer (width r) p keeps r (after r p) (twins-start p keeps r t) q)
+    go true t = sym (twins-answer (wideIn r) p keeps r (after r p) (twins-start p keeps r t) q)
     go false t = ap (λ (x : Record). answerTo x q) (setting-sets r (settingIn p) (lentWith p) .refuses t)
 
 taken-without : (r : Record) (p q : CueCall) → keepsMode p ≡ true → Takes (after r p) q → Takes r q
@@ -126,22 +127,22 @@ taken-behind r p q keeps t = ap accepted (answers-stay r p q keeps) ∙ t
 
 -- b on the settings that a left: a change for settings of the old width
 next-makes : (r : Record) (a b : CueCall) → keepsMode a ≡ true → Takes r a → Takes (after r a) b →
-    Makes (changeOf (width r) b) (put (r .settings) a) (put (put (r .settings) a) b)
+    Makes (changeOf (wideIn r) b) (put (r .settings) a) (put (put (r .settings) a) b)
 next-makes r a b keeps ta tb =
-    subst (λ (x : Record). Makes (changeOf (width r) b) (x .settings) (put (x .settings) b)) (taken-after r a ta)
+    subst (λ (x : Record). Makes (changeOf (wideIn r) b) (x .settings) (put (x .settings) b)) (taken-after r a ta)
     (subst (λ (w : Bool). Makes (changeOf w b) (after r a .settings) (put (after r a .settings) b))
-    (sym (twins-width (width r) a keeps r (after r a) (twins-start a keeps r ta))) (taken-makes (after r a) b tb))
+    (sym (twins-width (wideIn r) a keeps r (after r a) (twins-start a keeps r ta))) (taken-makes (after r a) b tb))
 
 -- two calls at different bits
 calls-either-order : (r : Record) (p q : CueCall) → keepsMode p ≡ true → keepsMode q ≡ true →
-    DifferentBits (changeOf (width r) p) (changeOf (width r) q) → Takes r p → Takes (after r p) q → EitherOrder r p q
+    DifferentBits (changeOf (wideIn r) p) (changeOf (wideIn r) q) → Takes r p → Takes (after r p) q → EitherOrder r p q
 calls-either-order r p q kp kq apart tp tq = record {
   first = first;
   second = second;
   same =
       both p q tp tq
       ∙ ap (λ (x : List ℕ). recordOf (r .header) x (r .image))
-      (either-order (changeOf (width r) p) (changeOf (width r) q) apart (r .settings)
+      (either-order (changeOf (wideIn r) p) (changeOf (wideIn r) q) apart (r .settings)
       (put (r .settings) p) (put (put (r .settings) p) q) (put (r .settings) q) (put (put (r .settings) q) p)
       (taken-makes r p tp) (next-makes r p q kp tp tq) (taken-makes r q first) (next-makes r q p kq first second))
       ∙ sym (both q p first second);
@@ -160,7 +161,7 @@ calls-either-order r p q kp kq apart tp tq = record {
 
 -- a call that has all the bits of an earlier one
 later-stands : (r : Record) (p q : CueCall) (between : List CueCall) → keepsMode p ≡ true → Takes r p → Takes (afterAll (after r p) between) q →
-    Covers (changeOf (width (afterAll (after r p) between)) q) (changeOf (width r) p) → LaterStands r p between q
+    Covers (changeOf (wideIn (afterAll (after r p) between)) q) (changeOf (wideIn r) p) → LaterStands r p between q
 later-stands r p q between keeps tp tq covers = record {
   alone = alone;
   same =
@@ -169,18 +170,19 @@ later-stands r p q between keeps tp tq covers = record {
       ∙ sym (taken-after (afterAll r between) q alone);
 }
   where
-    w : Twins (width r) p keeps (afterAll r between) (afterAll (after r p) between)
-    w = twins-all (width r) p keeps r (after r p) (twins-start p keeps r tp) between
+    w : Twins (wideIn r) p keeps (afterAll r between) (afterAll (after r p) between)
+    w = twins-all (wideIn r) p keeps r (after r p) (twins-start p keeps r tp) between
 
     alone : Takes (afterAll r between) q
-    alone = ap accepted (twins-answer (width r) p keeps (afterAll r between) (afterAll (after r p) between) w q) ∙ tq
+    alone = ap accepted (twins-answer (wideIn r) p keeps (afterAll r between) (afterAll (after r p) between) w q) ∙ tq
 
     settings : put (afterAll (after r p) between .settings) q ≡ put (afterAll r between .settings) q
     settings =
-        sym (alike-meets (changeOf (width r) p) (changeOf (width (afterAll (after r p) between)) q) covers
-        (afterAll r between .settings) (afterAll (after r p) between .settings) (put (afterAll r between .settings) q) (put (afterAll (after r p) between .settings) q) (w .alike)
+        sym (alike-meets (changeOf (wideIn r) p) (changeOf (wideIn (afterAll (after r p) between)) q) covers
+        (afterAll r between .settings) (afterAll (after r p) between .settings)
+        (put (afterAll r between .settings) q) (put (afterAll (after r p) between .settings) q) (w .alike)
         (subst (λ (b : Bool). Makes (changeOf b q) (afterAll r between .settings) (put (afterAll r between .settings) q))
-        (twins-width (width r) p keeps (afterAll r between) (afterAll (after r p) between) w) (taken-makes (afterAll r between) q alone))
+        (twins-width (wideIn r) p keeps (afterAll r between) (afterAll (after r p) between) w) (taken-makes (afterAll r between) q alone))
         (taken-makes (afterAll (after r p) between) q tq))
 
 -- ---- the claims
@@ -198,7 +200,7 @@ pub dots-in-either-order : DotsInEitherOrder
 unfolding keepsMode
 dots-in-either-order r c d l s v k t w n tp tq =
     calls-either-order r (dot c l s v) (dot d k t w) refl refl
-    (dots-apart (width r) (r .header .member) c d l s v k t w n (dot-there r c l s v tp)
+    (dots-apart (wideIn r) (r .header .member) c d l s v k t w n (dot-there r c l s v tp)
     (dot-there r d k t w (taken-without r (dot c l s v) (dot d k t w) refl tq))) tp tq
 
 -- "two scenes with no dot in common change places freely"
@@ -206,15 +208,15 @@ pub scenes-in-either-order : ScenesInEitherOrder
 unfolding keepsMode
 scenes-in-either-order r one other n tp tq =
     calls-either-order r (scene one) (scene other) refl refl
-    (scenes-apart (width r) (r .header .member) one other (scene-there r one tp .dots)
+    (scenes-apart (wideIn r) (r .header .member) one other (scene-there r one tp .dots)
     (scene-there r other (taken-without r (scene one) (scene other) refl tq) .dots) n) tp tq
 
 pub scene-and-dot-in-either-order : SceneAndDotInEitherOrder
 unfolding keepsMode
 scene-and-dot-in-either-order r bytes c l s v n tp tq =
     calls-either-order r (scene bytes) (dot c l s v) refl refl
-    (different-swapped (changeOf (width r) (dot c l s v)) (changeOf (width r) (scene bytes))
-    (scene-dot-apart (width r) (r .header .member) c l s v bytes
+    (different-swapped (changeOf (wideIn r) (dot c l s v)) (changeOf (wideIn r) (scene bytes))
+    (scene-dot-apart (wideIn r) (r .header .member) c l s v bytes
     (dot-there r c l s v (taken-without r (scene bytes) (dot c l s v) refl tq)) (scene-there r bytes tp .dots) n)) tp tq
 
 -- "of two accepted Lamp calls on one dot in one data mode the later one stands"
@@ -222,7 +224,7 @@ pub later-lamp-stands : LaterLampStands
 unfolding keepsMode changeOf sortField
 later-lamp-stands r l s v w between tp tq e =
     later-stands r (dot lamp l s v) (dot lamp l s w) between refl tp tq
-    (subst (λ (b : Bool). Covers (changeOf b (dot lamp l s w)) (changeOf (width r) (dot lamp l s v))) e (λ k h. h))
+    (subst (λ (b : Bool). Covers (changeOf b (dot lamp l s w)) (changeOf (wideIn r) (dot lamp l s v))) e (λ k h. h))
 
 -- "a Scene given twice is as given once"
 pub scene-twice : SceneTwice
@@ -232,7 +234,7 @@ scene-twice r bytes t = (again, later-stands r (scene bytes) (scene bytes) [] re
     again : Takes (after r (scene bytes)) (scene bytes)
     again = taken-behind r (scene bytes) (scene bytes) refl t
 
-    covers : Covers (changeOf (width (after r (scene bytes))) (scene bytes)) (changeOf (width r) (scene bytes))
+    covers : Covers (changeOf (wideIn (after r (scene bytes))) (scene bytes)) (changeOf (wideIn r) (scene bytes))
     covers =
-        subst (λ (b : Bool). Covers (changeOf b (scene bytes)) (changeOf (width r) (scene bytes)))
-        (twins-width (width r) (scene bytes) refl r (after r (scene bytes)) (twins-start (scene bytes) refl r t)) (λ k h. h)
+        subst (λ (b : Bool). Covers (changeOf b (scene bytes)) (changeOf (wideIn r) (scene bytes)))
+        (twins-width (wideIn r) (scene bytes) refl r (after r (scene bytes)) (twins-start (scene bytes) refl r t)) (λ k h. h)

@@ -8,7 +8,7 @@ use Prim.Native.Nat.{ℕ, zero, suc, _+_, _*_, _/_, _%_, _<_, _≤_}
 use native.Mathlib.Decide.{ℕ-discrete}
 use native.Mathlib.Omega.{arith}
 use Rattle.map.specs.Refusals.{accepted}
-use Rattle.map.specs.Map.{isDot, numberIn}
+use Rattle.map.specs.Map.{isDot, numberIn, dotNumber}
 use Rattle.map.specs.ListLaws.{all-at}
 use Rattle.dots.specs.Dots.{wideOf, topLevel, putLevel, levelOf}
 use Rattle.dots.specs.DotLaws.{level-mode, level-reads-back, level-other}
@@ -22,6 +22,10 @@ use Rattle.host.specs.RecordLaws.{setting-taken, lamp-taken, SceneTaken,
 use Rattle.host.specs.LockLaws.{scene-marks}
 use Rattle.host.specs.SoundLaws.{Sound, sound-is, is-sound, scene-image}
 use Rattle.host.specs.SettingLaws.{setting-sets}
+
+-- a dot's number is that of its line and sink
+pub numbered : (d : ℕ) → dotNumber (d / 18) (d % 18) ≡ d
+numbered d = omega arith
 
 -- the Lamp call of an entry
 abbrev entryLamp : List ℕ → ℕ → Setting
@@ -83,10 +87,7 @@ module _ (r : Record) (bytes : List ℕ) (t : accepted (settingAnswer r Scene by
   lamps-part (suc k) h =
       ap (λ (x : Record). settingOf x (entryLamp bytes k) [] .host) (lamps-part k (omega arith))
       ∙ setting-sets (part k) (entryLamp bytes k) [] .accepts (entry-taken k (omega arith))
-      ∙ ap (λ (d : ℕ). recordOf (r .header) (putLevel (putScene bytes (r .settings) k) d (sceneLevel bytes k)) (r .image)) (number (sceneDot bytes k))
-    where
-      number : (d : ℕ) → 18 * (d / 18) + d % 18 ≡ d
-      number d = omega arith
+      ∙ ap (λ (d : ℕ). recordOf (r .header) (putLevel (putScene bytes (r .settings) k) d (sceneLevel bytes k)) (r .image)) (numbered (sceneDot bytes k))
 
   -- each Lamp call is accepted, and together they give the scene's record
   pub scene-lamps-taken : (k : ℕ) → k < sceneCount bytes → entryAnswer (lampsOf r bytes k) bytes k ≡ true
