@@ -217,14 +217,15 @@ static void note_pair(const struct cue_call *first, const struct cue_call *secon
 static void either_order(const struct world *start, const struct cue_call *first, const struct cue_call *second)
 {
     struct world one = *start, other = *start;
-    uint32_t answers[2] = {make(&one, first), make(&one, second)}, answer = make(&other, second);
+    uint32_t before = make(&one, first), behind = make(&one, second), answer;
     int same, free = change_places(first, second);
 
-    check(answer == answers[1], "a call is answered %u behind another and %u before it", answers[1], answer);
+    answer = make(&other, second);
+    check(answer == behind, "a call is answered %u behind another and %u before it", behind, answer);
     answer = make(&other, first);
-    check(answer == answers[0], "a call is answered %u before another and %u behind it", answers[0], answer);
+    check(answer == before, "a call is answered %u before another and %u behind it", before, answer);
     same = same_record(&one, &other);
-    if (answers[0] != 0 || answers[1] != 0) {
+    if (before != 0 || behind != 0) {
         note(REFUSED_IN_BOTH, 1);
         check(same, "with a refused call the order shows");
         return;
@@ -251,6 +252,7 @@ static void later_lamp(const struct world *start)
     struct world with = *start, without = *start;
     struct cue_call lamp = some_call_on_a_dot(start), between;
     int width = wide(start), other_width = 0;
+    uint32_t answer;
 
     lamp.kind = LAMP;
     lamp.numbers[2] = some_level(start);
@@ -258,11 +260,14 @@ static void later_lamp(const struct world *start)
         return;
     for (uint32_t i = random_below(BETWEEN + 1); i > 0; i--) {
         between = some_call(&with);
-        check(make(&with, &between) == make(&without, &between), "a call between is answered in two ways");
+        answer = make(&with, &between);
+        check(make(&without, &between) == answer, "a call between is answered %u, and something else without the first Lamp", answer);
         other_width |= wide(&with) != width;
     }
     lamp.numbers[2] = some_level(&with);
-    if (make(&with, &lamp) != 0 || make(&without, &lamp) != 0)
+    answer = make(&with, &lamp);
+    check(make(&without, &lamp) == answer, "a later Lamp is answered %u, and something else alone", answer);
+    if (answer != 0)
         return;
     if (wide(&with) == width) {
         check(same_record(&with, &without), "an earlier Lamp shows behind a later one");
