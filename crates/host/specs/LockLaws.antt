@@ -11,11 +11,11 @@ use lib.Dec.{leb, eqb}
 use lib.ListN.{getD}
 use lib.Seq.{getD-set-other}
 use Rattle.map.specs.declared.dots.Field.{Field}
-use Rattle.map.specs.declared.dots.Field as fields
 use Rattle.map.specs.declared.refusals.Answer.the-variants.{Accepted}
 use Rattle.map.specs.declared.refusals.Refusal.the-variants.{Unsound, NotLockable}
 use Rattle.map.specs.Refusals.{accepted}
 use Rattle.map.specs.Map.{addressOf}
+use Rattle.map.specs.PlaceLaws.{place-above}
 use Rattle.map.specs.ListLaws.{and-left, and-right}
 use Rattle.dots.specs.Dots.{putField}
 use Rattle.dots.specs.DotLaws.{level-elsewhere}
@@ -92,19 +92,9 @@ kept-low h a e = go (keeps-trim h a e)
     go (inr q) = omega arith
 
 -- a dot's bits at 00Ch or above,
-pub place-high : (f : Field) (l s : ℕ) → 0x00C ≤ addressOf f l s
-unfolding addressOf
-place-high fields.the-variants.Group l s = omega arith
-place-high fields.the-variants.Switch l s = omega arith
-place-high fields.the-variants.Open l s = omega arith
-place-high fields.the-variants.Short l s = omega arith
-place-high fields.the-variants.Current l s = omega arith
-place-high fields.the-variants.Pwm8 l s = omega arith
-place-high fields.the-variants.Pwm16 l s = omega arith
-
 pub field-above : (f : Field) (image : List ℕ) (l s v a : ℕ) → a < 0x00C → getD (putField f image l s v) a 0 ≡ getD image a 0
 unfolding putField
-field-above f image l s v a h = getD-set-other image (addressOf f l s) a _ 0 (λ e. omega (arith, e, place-high f l s))
+field-above f image l s v a h = getD-set-other image (addressOf f l s) a _ 0 (λ e. omega (arith, e, place-above f l s))
 
 -- and the levels of a scene at 200h or above
 pub scene-above : (bytes image : List ℕ) (k a : ℕ) → a < 0x200 → getD (putScene bytes image k) a 0 ≡ getD image a 0

@@ -80,7 +80,7 @@ open-sound m b p = go (accepted (openAnswer m b p)) refl
 
 -- ---- what a setting puts into an image leaves an image
 
-pub below : {n k v : ℕ} → n ≡ suc k → v ≤ k → v < n
+below : {n k v : ℕ} → n ≡ suc k → v ≤ k → v < n
 below e h = omega arith
 
 pub scene-image : (m : ℕ) (image bytes : List ℕ) (n : ℕ) → Image m image → allFrom (sceneHasDot m bytes) 0 n ≡ true → (k : ℕ) → k ≤ n →
