@@ -1,7 +1,9 @@
-# Judges one edit of a crate: awk -v crate=NAME -v edit=FILE -f judge.awk kind=source FILES.. kind=edit FILE kind=log FILE
+# Judges one edit of a crate: awk -v crate=NAME -v edit=FILE -f specs.awk -f judge.awk
+#     kind=source FILES.. kind=specs FILES.. kind=proofs FILES.. kind=edit FILE kind=log FILE
 #
 # The sources tell which functions each wrong version changes, the log which functions were refused for themselves. Both must be the
-# functions that the version names.
+# functions that the version names. The files of specs/ tell which declarations a wrong version changes, and which of them a law sees
+# (specs.awk): the laws that a version names must be refused for themselves, see what it changes, and see nothing that another version changes.
 
 function hold(what) {
     print "judge: " edit ": " what
@@ -99,6 +101,19 @@ function place_of(file, old,    n, at, found, text) {
     return found == 1
 }
 
+# The version changes the declaration of specs/ that the line `place` of the file belongs to.
+function redefine(file, old,    what) {
+    what = declaration[file, place]
+    if (!version) alone = 1
+    else if (!(version in of_laws)) hold(label[version] " changes " file ", but names no law of specs/")
+    else if (what == "") hold(label[version] " changes a line of no declaration: " old)
+    else {
+        if (what in redefined && redefined[what] != version) hold(what " is wrong twice, " label[redefined[what]] " and " label[version])
+        redefined[what] = version
+        redefines[version] = 1
+    }
+}
+
 function replace(file, old, new,    n, i, at, text, who) {
     if (!place_of(file, old)) return
     text = line[file, place]
@@ -106,11 +121,16 @@ function replace(file, old, new,    n, i, at, text, who) {
     line[file, place] = substr(text, 1, at - 1) new substr(text, at + length(old))
     if (file ~ /^specs\//) {
         of_specs = defined[file] = 1
+        redefine(file, old)
         return
     }
     if (file ~ /^src\//) of_src = 1
     if (!version) {
         hold("a pair stands under no '# wrong' line: " old)
+        return
+    }
+    if (version in of_laws) {
+        hold(label[version] " names laws, but changes " file)
         return
     }
     if (file ~ /^proofs\//) {
@@ -131,7 +151,13 @@ function replace(file, old, new,    n, i, at, text, who) {
 kind == "edit" && /^# wrong / {
     label[++version] = $3
     sub(/:$/, "", label[version])
-    if ($0 !~ /^# wrong [A-Za-z0-9_]+:( [a-z0-9_:]+)+$/) hold("not of the form '# wrong LABEL: FN [FN ..]': " $0)
+    if ($0 ~ /^# wrong [A-Za-z0-9_]+:( [A-Z][A-Za-z0-9]*\.[^ .]+)+$/) {
+        of_laws[version] = 1
+        for (i = 4; i <= NF; i++) falls[version, $i] = 1
+        next
+    }
+    of_functions = 1
+    if ($0 !~ /^# wrong [A-Za-z0-9_]+:( [a-z0-9_:]+)+$/) hold("not of the form '# wrong LABEL: FN ..' or '# wrong LABEL: File.law ..': " $0)
     for (i = 4; i <= NF; i++) {
         if ($i in named) hold($i " is wrong twice, " label[named[$i]] " and " label[version])
         named[$i] = version
@@ -158,13 +184,24 @@ kind == "edit" && /^new:/ {
 # needs or steps were added or are gone, or since the check does not cover code of this form: a right version of another shape would be
 # refused as well.
 
-# A definition is refused by a law, an example or a proof that is refused for itself. A file that the edit changes must stand: a text that
-# is no definition breaks every law, and shows nothing.
+# A definition is refused by a law, an example or a proof that is refused for itself; where several are wrong, by the laws and examples that
+# their versions name. A file of specs/ that the edit changes must stand: a text that is no definition breaks every law, and shows nothing.
+
+# The error `said` at the file `at` is no follower of another: what it is about was refused for itself.
+function hear_fall(    name, unit) {
+    broken = 1
+    if (at !~ /^specs\// || said !~ /^`[^`]+`: /) return
+    split(said, name, "`")
+    unit = at
+    sub(/^.*\//, "", unit)
+    sub(/\.antt$/, "", unit)
+    fell[unit "." name[2]] = 1
+}
 
 # What the error at `at` says, its further lines included
 function hear_error(    n, i) {
     if (at in defined) ill = 1
-    else if (at != "" && said !~ /was not admitted/) broken = 1
+    else if (at != "" && said !~ /was not admitted/) hear_fall()
     n = at == "" ? 0 : proved_in(at)
     for (i = 1; i <= n; i++)
         if (said ~ /was not admitted .*so this cannot be checked/) continue
@@ -197,14 +234,32 @@ kind == "log" && /^logic=not-proved/ { refused = 1 }
 
 # ---- The verdict
 
-END {
-    hear_error()
-    if (!refused) hold("was not refused")
-    if (of_specs && (of_src || version)) hold("an edit of specs/ stays alone, with no '# wrong' line")
-    if (!of_specs && !of_src) hold("changes nothing of src/ or specs/")
-    if (of_specs && ill) hold("what the edit changes is itself refused")
-    else if (of_specs && !broken) hold("no law, example or proof is refused for itself")
-    if (of_specs || !version) exit held
+# The laws that the versions of definitions name
+function judge_laws(    v, pair, part, other) {
+    for (v in of_laws) if (!(v in redefines)) hold(label[v] " changes no definition")
+    for (pair in falls) {
+        split(pair, part, SUBSEP)
+        if (!(part[2] in text_of)) {
+            hold(label[part[1]] " names " part[2] ", which is not there")
+            continue
+        }
+        if (!(part[2] in fell)) hold(label[part[1]] ": " part[2] " was not refused for itself")
+        other = sees_other(part[2], part[1])
+        if (other != "") hold(label[part[1]] ": " part[2] " sees " other ", which " label[redefined[other]] " changes")
+        if (!sees_own) hold(label[part[1]] ": " part[2] " does not see what it changes")
+    }
+}
+
+# Beside wrong functions: nothing that the code or its proofs name sees a definition that is wrong.
+function judge_riders(    name, other) {
+    for (name in by_code) {
+        other = sees_other(name, 0)
+        if (other != "") hold(label[redefined[other]] " changes " other ", which the code sees by " name ": it cannot stand beside wrong functions")
+    }
+}
+
+# The functions that the versions of functions name
+function judge_functions(    pair, part, name) {
     for (pair in changes) {
         split(pair, part, SUBSEP)
         if (!(pair in names)) hold(label[part[1]] " changes " part[2] ", which it does not name")
@@ -221,5 +276,17 @@ END {
     }
     for (name in own)
         if (!(name in named)) hold(name " was refused for itself, and no version names it")
+}
+
+END {
+    hear_error()
+    if (!refused) hold("was not refused")
+    if (alone && (of_src || version)) hold("an edit of specs/ with no '# wrong' line stays alone")
+    if (!of_specs && !of_src) hold("changes nothing of src/ or specs/")
+    if (of_specs && ill) hold("what the edit changes is itself refused")
+    else if (of_specs && !broken) hold("no law, example or proof is refused for itself")
+    if (!alone) judge_laws()
+    if (of_functions && of_specs && !alone) judge_riders()
+    if (of_functions && !alone) judge_functions()
     exit held
 }

@@ -2,7 +2,7 @@
 // and the chips of the four places.
 //
 // A chip of the bus is on I2C and has its place for its pins. The list of an accepted round is fed to every such chip, present or not: what
-// is for other pins passes by. specs/BusDemand.antt has the claim about whole lists of bus calls, specs/BusTheorem.antt its proof.
+// is for other pins passes by. The crate bus_demand has the claim about whole lists of bus calls.
 mod hearing;
 mod places;
 

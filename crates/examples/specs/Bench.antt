@@ -25,7 +25,7 @@ use Rattle.host.specs.SoundLaws.{is-sound, open-sound}
 use Rattle.update.specs.Update.{listSize, over, Sending, sendAnswer, sendBuffer, writesOf, resetting, resetBuffer, clearing, clearBuffer}
 use Rattle.update.specs.SendLaws.{send-listed}
 use Rattle.history.specs.Step.{stepOf}
-use Rattle.history.specs.History.{Event, call, worldAfter}
+use Rattle.demand.specs.Events.{Event, call, worldAfter}
 
 -- a setting, with nothing lent
 abbrev setting : Setting → Event

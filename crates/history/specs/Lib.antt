@@ -2,14 +2,4 @@ pub mod Ledger
 pub mod Step
 pub mod History
 pub mod LedgerLaws
-pub mod MachineLaws
-pub mod WorldLaws
-pub mod RivalLaws
-pub mod Theorem
-pub mod Recovery
-pub mod RecoveryLaws
-pub mod Lamps
-pub mod Clear
-pub mod ClearLaws
 pub mod HistoryExamples
-pub mod RecoveryExamples

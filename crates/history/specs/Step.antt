@@ -1,6 +1,5 @@
 -- One call on a world, by the promises of the real calls and of Feed: document 01, "The ledger and whole lists". A world is a host's
--- record, `host`, and its chip; `lent` is the bytes of a scene, or the buffer of a call that writes a list. Behind the calls stands a part,
--- what a round of document 02, Q-3, does to one world.
+-- record, `host`, and its chip; `lent` is the bytes of a scene, or the buffer of a call that writes a list.
 -- Assumes nothing.
 use mathlib.Core.Bool.{Bool}
 use mathlib.Core.List.{List}
@@ -10,18 +9,15 @@ use lib.ListN.{length, take}
 use Rattle.map.specs.declared.refusals.Numbers.{Numbers}
 use Rattle.map.specs.declared.refusals.Refusal.the-variants.{Locked}
 use Rattle.map.specs.Refusals.{refusalNumber, numbersOf}
-use Rattle.burst.specs.Burst.{Burst, encode}
-use Rattle.plan.specs.Update.{storeAll}
-use Rattle.plan.specs.Portion.{portion}
 use Rattle.calls.specs.declared.Request.{Request}
 use Rattle.calls.specs.declared.Request.the-variants.{Set, Reset, PowerLost, Update, Lock}
 use Rattle.host.specs.declared.Changed.{Changed}
-use Rattle.host.specs.Record.{recordOf, settingOf, powerLostOf, lockOf}
+use Rattle.host.specs.Record.{settingOf, powerLostOf, lockOf}
 use Rattle.update.specs.declared.ListAnswer.{ListAnswer}
 use Rattle.update.specs.declared.ListAnswer.the-variants.{Listed, Short, Refused}
 use Rattle.update.specs.declared.Sent.{Sent}
 use Rattle.update.specs.declared.Updated.{Updated}
-use Rattle.update.specs.Update.{listNumbers, updateNumbers, Sending, sendOf, sendBuffer, writesOf, updateOf, updateBuffer, resetting, clearing}
+use Rattle.update.specs.Update.{listNumbers, updateNumbers, Sending, sendOf, sendBuffer, updateOf, updateBuffer, resetting, clearing}
 use Rattle.chip.specs.declared.Chip.{Chip}
 use Rattle.chip.specs.Chip.{feedOf}
 use Rattle.history.specs.declared.World.{World}
@@ -106,24 +102,6 @@ stepOf w Reset lent = sendStep w (resetting (w .host)) lent
 stepOf w PowerLost lent = changeStep (powerLostOf (w .host)) (Rattle.chip.specs.Chip.powerLostOf (w .chip)) lent
 stepOf w Update lent = updateStep (updateOf (w .host) (length lent)) (updateBuffer (w .host) lent) (w .chip)
 stepOf w Lock lent = changeStep (lockOf (w .host)) (w .chip) lent
-
--- ---- A part: document 02, Q-3
-
--- "A chip's portion within some number of bytes is the longest beginning of its pending list, Update's, that fits" (plan: `portion-begins`,
--- `portion-bytes` and `portion-longest`)
-abbrev pub partOf : World → ℕ → List Burst
-partOf w room = portion room (writesOf (w .host))
-
--- the chip hears these writes, in a list for the record's bus and pins; "each chip image takes what its chip is sent"
-abbrev pub sentTo : World → List Burst → World
-sentTo w xs = record {
-  host = recordOf (w .host .header) (w .host .settings) (storeAll xs (w .host .image));
-  chip = feedOf (w .chip) (encode (w .host .header .bus) (w .host .header .pins) xs) .chip;
-}
-
--- a part: those of its portion within `room` bytes
-abbrev pub partStep : World → ℕ → World
-partStep w room = sentTo w (partOf w room)
 
 -- ---- Clear, which is no call of the list of demand 3
 

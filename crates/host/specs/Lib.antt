@@ -5,8 +5,4 @@ pub mod FreeLaws
 pub mod SoundLaws
 pub mod SettingLaws
 pub mod SceneLaws
-pub mod CueOrder
-pub mod CueChanges
-pub mod CueLaws
-pub mod CueExamples
 pub mod RecordExamples

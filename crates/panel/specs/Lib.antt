@@ -1,6 +1,1 @@
 pub mod PanelStep
-pub mod PanelHistory
-pub mod PanelLaws
-pub mod PanelTheorem
-pub mod PanelRecovery
-pub mod PanelRecoveryLaws

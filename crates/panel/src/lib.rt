@@ -1,8 +1,7 @@
 // A C program on the panel: one call of include/lp586x.h after the other, on the bytes of a record and of its chip.
 //
 // A call is made on the record's bytes. Where it answers 0 and wrote a list, the first 4 + 2n + t bytes of the buffer are fed to the
-// chip at once, and a loss of power is told to both. specs/PanelHistory.antt has the claim about whole lists of such calls,
-// specs/PanelTheorem.antt its proof from that of the crate history: the bytes are always those of its record and its chip.
+// chip at once, and a loss of power is told to both. The crate panel_demand has the claim about whole lists of such calls.
 ghost use mathlib.Core.Path.{_≡_};
 ghost use Prim.Native.Nat.{_+_, _*_, _≤_};
 ghost use lib.ListN.{length};

@@ -1,0 +1,4 @@
+pub mod CueOrder
+pub mod CueChanges
+pub mod CueLaws
+pub mod CueExamples

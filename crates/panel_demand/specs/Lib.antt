@@ -1,0 +1,5 @@
+pub mod PanelHistory
+pub mod PanelLaws
+pub mod PanelTheorem
+pub mod PanelRecovery
+pub mod PanelRecoveryLaws
