@@ -45,6 +45,12 @@ dim-by-mode : (m : ℕ → List Bool) → ((x : ℕ) → m x ≡ map (isDim (lev
 unfolding isDim testedFrom testedFromNarrow testedFromWide levelOf wideOf isWide dataMode levels
 dim-by-mode m e = (e 0x58, e 0x5A, e 0x5C, e 0x5E)
 
+-- "0 sound, 1 open, 2 short, 3 both": of clear bits by whether the lamp is dim; "A set bit reads as before.", dim or not
+by-bits : (dim : Bool) → (lampReading false false false ≡ 0) × (lampReading false false true ≡ 5)
+    × (lampReading true false dim ≡ 1) × (lampReading false true dim ≡ 2) × (lampReading true true dim ≡ 3)
+unfolding lampReading
+by-bits dim = (refl, refl, refl, refl, refl)
+
 -- "0 sound, 1 open, 2 short, 3 both, 4 no such dot", "5, untested": of the LP5860, with levels of 16 bits and of 8, and, whose sinks 2 and 3
 -- are absent, of the LP5867
 readings-of-lp5860 : (map (reading 0 (levels 0x5E) (bytes 0x03)) (0 ∷ 1 ∷ 2 ∷ 3 ∷ 4 ∷ 18 ∷ 197 ∷ 198 ∷ []) ≡ 1 ∷ 2 ∷ 3 ∷ 5 ∷ 0 ∷ 1 ∷ 3 ∷ 4 ∷ [])
