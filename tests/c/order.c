@@ -1,4 +1,4 @@
-/* Document 02's cue order, Q-6: what crates/host/specs/CueOrder.antt claims, tried on the library. Pairs of calls of a cue, in either order
+/* Document 02's cue order, Q-6: what crates/cues/specs/CueOrder.antt claims, tried on the library. Pairs of calls of a cue, in either order
  * on the same record; scenes given twice, and scenes in either order; Lamps with other calls between them. Dots come from a neighbourhood, so
  * that calls meet in a byte and on a dot. Where a claim has a condition, pairs without it must be seen to depend on the order.
  */

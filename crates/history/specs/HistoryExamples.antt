@@ -15,10 +15,11 @@ use Rattle.calls.specs.declared.Setting.{Setting}
 use Rattle.calls.specs.declared.Setting.the-variants.{Register, Lamp, Group, Switch}
 use Rattle.calls.specs.declared.Request.{Request}
 use Rattle.calls.specs.declared.Request.the-variants.{Set, Reset, PowerLost, Update, Lock}
-use Rattle.host.specs.Record.{soundOf, putSetting}
+use Rattle.host.specs.declared.Record.{Record}
+use Rattle.host.specs.Record.{soundOf, putSetting, lockOf}
 use Rattle.update.specs.declared.ListAnswer.the-variants as lists
 use Rattle.update.specs.Update.{sendAnswer, sendOf, sendBuffer}
-use Rattle.chip.specs.Chip.{feedAnswer, selected, decodeOf, heard, isCommand, lodClear, lsdClear, heardByte, hearByte, hearData, hear, apply, applyAll, feedOf}
+use Rattle.chip.specs.Chip.{chipOf, feedAnswer, selected, decodeOf, heard, isCommand, lodClear, lsdClear, heardByte, hearByte, hearData, hear, apply, applyAll, feedOf}
 use Rattle.history.specs.declared.World.{World}
 use Rattle.history.specs.declared.CallAnswer.{CallAnswer}
 use Rattle.history.specs.declared.CallAnswer.the-variants as answers
@@ -52,6 +53,15 @@ list-in-front = refl
 -- a setting and Power lost leave the lent bytes as they were: a scene's too
 lent-stays : (w : World) (q : Setting) (lent : List ℕ) → (stepOf w (Set q) lent .lent ≡ lent) × (stepOf w PowerLost lent .lent ≡ lent)
 lent-stays w q lent = (refl, refl)
+
+-- "at Power lost the chip loses power.": whatever it held, and whatever the record answers
+power-gone : (host : Record) (registers lent : List ℕ) → stepOf (record { host = host; chip = chipOf 3 0 1 registers }) PowerLost lent .world .chip ≡ chipOf 3 0 1 (resetImage 3)
+unfolding Rattle.chip.specs.Chip.powerLostOf
+power-gone host registers lent = refl
+
+-- Q-5, "With locking in demand 3's list": the record behind a Lock is the one that Lock returns, and the chip stays
+lock-kept : (w : World) (lent : List ℕ) → (stepOf w Lock lent .world .host ≡ lockOf (w .host) .host) × (stepOf w Lock lent .world .chip ≡ w .chip)
+lock-kept w lent = (refl, refl)
 
 -- "Chip enable is wanted on when bit 0 of the ledger's 000h is 1."
 wanted-on : (wantsOn (0xFF ∷ 0x00 ∷ []) ≡ true) × (wantsOn (0xFE ∷ 0xFF ∷ []) ≡ false)
