@@ -52,8 +52,10 @@ returns c =
     let sized = c .before .before in
     let put = sized .before .before .before in
     let ran = put .before .before .before .before .before .before in
-    round-put _ _ _ _ _ _ _ _ _ _ _ _ _ (ran .before .before .fresh-buffer .ensures)
-    (ran .round-within .kept .1 .1 .1 .1 .0 ∙ fresh-length _ (ran .before .before .fresh-buffer .ensures)) (ran .round-within .ensures .0) (ran .round-within .ensures .1)
+    let fresh = ran .before .before in
+    let given = fresh .before .before .args in
+    round-put (given .player) (given .marks) (given .limit) (given .room) _ _ (ran .round-within .result) _ _ _ _ _ _ (fresh .fresh-buffer .ensures)
+    (ran .round-within .kept .1 .1 .1 .1 .0 ∙ fresh-length _ (fresh .fresh-buffer .ensures)) (ran .round-within .ensures .0) (ran .round-within .ensures .1)
     (put .put-line .ensures) (sized .size-by .ensures) (c .keep .ensures)
 
 pub round-spec : {M : Type 1} → statement M
