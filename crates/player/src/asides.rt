@@ -8,6 +8,7 @@ ghost use Rattle.script.specs.Words.{wordAt};
 ghost use Rattle.script.specs.Bytes.{bytesOf};
 ghost use Rattle.player.specs.Play.{echoText, lampsOf, faultMapText, differencesOf, lastListText, asideLine, afterAside};
 use crate::LIST;
+use crate::Played;
 use crate::Player;
 use faults::Answer;
 use history::World;
@@ -114,7 +115,7 @@ fn put_list(bus: usize, list: &[u8], listed: usize, text: &mut [u8], at: usize) 
 }
 
 // What an aside prints.
-pub(crate) fn put(player: Player, aside: Aside, line: &[u8], text: &mut [u8], at: usize) -> usize
+fn put(player: Player, aside: Aside, line: &[u8], text: &mut [u8], at: usize) -> usize
     requires { ⌜ AsideFits (now line) aside ⌝ }
     ensures { λ r. ⌜ Puts (now (text .entry)) at (asideLine player aside (now (line .entry))) (now (text .exit)) r ⌝ }
 {
@@ -142,7 +143,7 @@ pub(crate) fn put(player: Player, aside: Aside, line: &[u8], text: &mut [u8], at
 }
 
 // The player after an aside: `echo` is kept.
-pub(crate) fn after(mut player: Player, aside: Aside) -> Player
+fn after(mut player: Player, aside: Aside) -> Player
     ensures { λ r. ⌜ r ≡ afterAside player aside ⌝ }
 {
     match aside {
@@ -155,5 +156,17 @@ pub(crate) fn after(mut player: Player, aside: Aside) -> Player
         Aside::FaultMap(_) => player,
         Aside::Diff => player,
         Aside::List => player,
+    }
+}
+
+// The aside is the line's.
+pub(crate) fn play(player: Player, aside: Aside, line: &[u8], text: &mut [u8], at: usize) -> Played
+    requires { ⌜ AsideFits (now line) aside ⌝ }
+    ensures { λ r. ⌜ r .player ≡ afterAside player aside ⌝ }
+    ensures { λ r. ⌜ Puts (now (text .entry)) at (asideLine player aside (now (line .entry))) (now (text .exit)) (r .at) ⌝ }
+{
+    Played {
+        player: after(player, aside),
+        at: put(player, aside, line, text, at),
     }
 }

@@ -79,10 +79,7 @@ fn play_line(player: Player, line: &[u8], text: &mut [u8], at: usize) -> Played
 {
     match script::read(line) {
         Line::Run(command) => running::run(player, command, line, text, at),
-        Line::Aside(aside) => Played {
-            player: asides::after(player, aside),
-            at: asides::put(player, aside, line, text, at),
-        },
+        Line::Aside(aside) => asides::play(player, aside, line, text, at),
         Line::Panel(place) => panels::panel(player, place, text, at),
         Line::Round(marks, limit, room) => panels::round(player, marks, limit, room, text, at),
     }

@@ -1,4 +1,4 @@
--- `player::play_line` meets its contract.
+-- `player::play_line` meets its contract: each kind of line is what its own function promises, since `lineOf` is that kind.
 -- Assumes nothing.
 use Rattle.player.proofs.Steps.{run-line, aside-fits, round-fits, run-played, aside-played, panel-played, round-played}
 use borrow.Author.Needs.{needs}
@@ -17,11 +17,8 @@ run-requires c κs = run-line _ _ _ (c .before .before .before .before .read .en
 enum-known-aside : tie.Need-enum-known-aside
 enum-known-aside c = search needs
 
-after-requires : tie.Need-after-requires
-after-requires c κs = search needs
-
-put-requires : tie.Need-put-requires
-put-requires c κs = aside-fits _ _ _ (c .before .before .before .before .before .read .ensures) (c .before .before .before .aside .given .1)
+play-requires : tie.Need-play-requires
+play-requires c κs = aside-fits _ _ _ (c .before .before .before .before .read .ensures) (c .before .before .aside .given .1)
 
 enum-known-place : tie.Need-enum-known-place
 enum-known-place c = search needs
@@ -43,18 +40,18 @@ returns c =
     let ran = c .before .before in
     let told = ran .before .before .before in
     let read = told .before .before in
-    run-played _ _ _ (read .read .ensures) _ _ _ _ _ _ (told .command .given .1) (ran .run .ensures)
+    run-played (read .before .before .before .args .player) _ (read .read .result) (read .read .ensures) _ _ _ _ _ _ (told .command .given .1) (ran .run .ensures)
 
 same-length-2 : tie.Need-same-length-2
 same-length-2 c = search needs
 
 returns-2 : tie.Need-returns-2
 returns-2 c =
-    let put = c .before .before in
-    let changed = put .before .before in
-    let told = changed .before .before in
+    let shown = c .before .before in
+    let told = shown .before .before .before in
     let read = told .before .before in
-    aside-played _ _ _ (read .read .ensures) _ _ _ _ _ _ (told .aside .given .1) (changed .after .ensures) (put .put .ensures)
+    aside-played (read .before .before .before .args .player) _ (read .read .result) (read .read .ensures) _ _ _ _ _ _ (told .aside .given .1)
+    (shown .play .ensures .0) (shown .play .ensures .1)
 
 same-length-3 : tie.Need-same-length-3
 same-length-3 c = search needs
@@ -64,7 +61,8 @@ returns-3 c =
     let moved = c .before .before in
     let told = moved .before .before .before in
     let read = told .before .before in
-    panel-played _ _ _ (read .read .ensures) _ _ _ _ _ _ (told .place .given .1) (moved .panel .ensures .0) (moved .panel .ensures .1)
+    panel-played (read .before .before .before .args .player) _ (read .read .result) (read .read .ensures) _ _ _ _ _ _ (told .place .given .1)
+    (moved .panel .ensures .0) (moved .panel .ensures .1)
 
 same-length-4 : tie.Need-same-length-4
 same-length-4 c = search needs
@@ -74,7 +72,7 @@ returns-4 c =
     let went = c .before .before in
     let told = went .before .before .before in
     let read = told .before .before in
-    round-played _ _ _ (read .read .ensures) _ _ _ _ _ _ _ _ (told .marks .given .1) (went .round .ensures)
+    round-played (read .before .before .before .args .player) _ (read .read .result) (read .read .ensures) _ _ _ _ _ _ _ _ (told .marks .given .1) (went .round .ensures)
 
 pub play-line-spec : {M : Type 1} → statement M
 play-line-spec =
@@ -84,8 +82,7 @@ play-line-spec =
     enum-known-command
     run-requires
     enum-known-aside
-    after-requires
-    put-requires
+    play-requires
     enum-known-place
     panel-requires
     enum-known-marks

@@ -1,4 +1,4 @@
--- `player::panels::round` meets its contract.
+-- `player::panels::round` meets its contract: what it hands on is the answer of `round_within`, and the player as it came but for its panels.
 -- Assumes nothing.
 use mathlib.Core.Path.{sym, _∙_}
 use native.Mathlib.Omega.{arith}

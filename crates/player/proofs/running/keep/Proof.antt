@@ -1,4 +1,4 @@
--- `player::running::keep` meets its contract.
+-- `player::running::keep` meets its contract: it stays as it is where there is no list, and where what is shown is too short for one.
 -- Assumes nothing.
 use mathlib.Core.Path.{sym}
 use native.Mathlib.Omega.{arith}
@@ -28,7 +28,7 @@ returns-3 c =
     let put = c .before in
     let fits = put .before .before .before .before in
     let some = fits .before in
-    keep-put _ _ _ _ _ _ (some .if1 .left) (fits .if2 .left) (put .put-text .ensures)
+    keep-put (some .before .before .args .player) _ _ _ _ _ (some .if1 .left) (fits .if2 .left) (put .put-text .ensures)
 
 pub keep-spec : {M : Type 1} → statement M
 keep-spec =

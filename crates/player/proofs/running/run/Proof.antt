@@ -1,4 +1,4 @@
--- `player::running::run` meets its contract.
+-- `player::running::run` meets its contract: the outcome of the session's run is what is put, kept and written back to the current panel.
 -- Assumes nothing.
 use mathlib.Core.Path.{sym, _∙_}
 use lib.Seq.{length-take-le}
@@ -58,8 +58,10 @@ returns c =
     let moved = put .before .before .before in
     let ran = moved .before .before .before in
     let found = ran .before .before in
-    command-played _ _ _ _ _ _ _ _ _ _ _ _ _ _ (found .before .fresh-buffer .ensures) (found .before .before .before .before .pre) (found .current-session .ensures)
-    (ran .run .kept .1 .1 .1 .0 ∙ fresh-length _ (found .before .fresh-buffer .ensures))
+    let fresh = found .before in
+    let entered = fresh .before .before .before in
+    command-played (entered .args .player) (found .current-session .result) (entered .args .command) _ _ _ (ran .run .result) (moved .with-current .result) _ _ _ _ _ _
+    (fresh .fresh-buffer .ensures) (entered .pre) (found .current-session .ensures) (ran .run .kept .1 .1 .1 .0 ∙ fresh-length _ (fresh .fresh-buffer .ensures))
     (ran .run .ensures) (moved .with-current .ensures) (put .put-line .ensures) (sized .kept-size .ensures) (c .keep .ensures)
 
 pub run-spec : {M : Type 1} → statement M
