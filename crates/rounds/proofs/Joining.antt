@@ -6,7 +6,7 @@ use mathlib.Core.List.{List, [], _∷_, _++_, map, map-append, append-assoc, app
 use Prim.Native.Nat.{ℕ, _+_, _-_, _*_, _≤_, _<_}
 use native.Mathlib.Omega.{arith}
 use lib.ListN.{length, length-append, length-map}
-use lib.Seq.{sets, length-sets}
+use lib.Seq.{sets}
 use Rattle.burst.specs.Burst.{Burst, sizeBytes, sizesBytes, sum, joined, transactionOf, listOf, busBytes}
 use Rattle.plan.specs.Portion.{portion}
 use Rattle.plan.specs.PortionLaws.{portion-again}
@@ -16,13 +16,13 @@ use Rattle.host.specs.declared.Record.{Record}
 use Rattle.host.specs.Record.{recordOf}
 use Rattle.writes.specs.declared.scan.Matrix.{Matrix}
 use Rattle.writes.specs.Marks.{matrixOf}
-use Rattle.writes.specs.WrittenLaws.{sets-append, sets-comm, sizes-append, joined-append, stored-length}
+use Rattle.writes.specs.WrittenLaws.{sets-append, sets-comm, sizes-append, joined-append}
 use Rattle.update.specs.Update.{writesOf}
 use Rattle.rounds.specs.declared.dealing.Dealt.{Dealt}
 use Rattle.rounds.specs.Round.{bytesAll, countAll, pinned, roundList, partAt, waiting, roundParts, roundRoom}
 use Rattle.rounds.specs.ListLaws.{pinned-count, pinned-sum}
 use Rattle.rounds.specs.DealLaws.{part-is, four-parts}
-use Rattle.rounds.specs.Dealing.{waitingOf, AllPlaced, DealtAre, putPart, partTransactions, RoundPut}
+use Rattle.rounds.specs.Dealing.{waitingOf, Waits, AllWait, AllPlaced, DealtAre, putPart, partTransactions, RoundPut}
 use Rattle.rounds.proofs.Shares.{absent-part, present-part}
 
 -- ---- pieces
@@ -119,6 +119,10 @@ module _ (present : Bool) (h : Header) (settings old : List ℕ) (index at bytes
 
 -- ---- four places
 
+-- what is lent of each
+pub waits-at : (kinds : List ℕ) (present : ℕ → Bool) (records : ℕ → Record) → AllWait kinds present records → (k : ℕ) → k < 4 → Waits kinds (present k) (records k)
+waits-at kinds present records a k h = record { kinds-are = a .kinds-are; sound = a .sound k h }
+
 module _ (limit : ℕ) (present : ℕ → Bool) (records : ℕ → Record) where
   abbrev parts : List (List Burst)
   parts = roundParts present records limit
@@ -209,16 +213,35 @@ module _ (limit : ℕ) (present : ℕ → Bool) (records : ℕ → Record) where
     w = waiting present records
 
     -- how many writes the parts have that fit the bytes dealt out
-    pub record Counts : Type 0 where
-      pub sum-is : x .writes ≡ length (portion (x .first) (w 0)) + length (portion (x .second) (w 1)) + length (portion (x .third) (w 2)) + length (portion (x .fourth) (w 3))
+    record Counts : Type 0 where
+      sum-is : x .writes ≡ length (portion (x .first) (w 0)) + length (portion (x .second) (w 1)) + length (portion (x .third) (w 2)) + length (portion (x .fourth) (w 3))
 
-    pub part-counts : Counts
+    part-counts : Counts
     part-counts =
         let a = ap length (part-again 0 (x .first) (omega arith) (d .first-is)) in
         let b = ap length (part-again 1 (x .second) (omega arith) (d .second-is)) in
         let c = ap length (part-again 2 (x .third) (omega arith) (d .third-is)) in
         let e = ap length (part-again 3 (x .fourth) (omega arith) (d .fourth-is)) in
         record { sum-is = omega (arith, d .writes-are, counts-are, a, b, c, e) }
+
+    -- the room of a part: n1 to n3 are the indices behind the parts before it
+    abbrev Room : ℕ → ℕ → ℕ → List Burst → Type 0
+    Room bytes place index part = (bytes ≤ 8192) × (place ≤ 65536) × (4 + 2 * (index + length part) ≤ place)
+
+    module _ (l : limit ≤ 4096) where
+      pub first-room : Room (x .first) at 0 (portion (x .first) (w 0))
+      first-room = (omega (arith, d .most), omega (arith, d .most, d .few), omega (arith, part-counts .sum-is))
+
+      module _ (n1 : ℕ) (e1 : n1 ≡ 0 + length (portion (x .first) (w 0))) where
+        pub second-room : Room (x .second) (at + x .first) n1 (portion (x .second) (w 1))
+        second-room = (omega (arith, d .most), omega (arith, d .most, d .few), omega (arith, part-counts .sum-is))
+
+        module _ (n2 : ℕ) (e2 : n2 ≡ n1 + length (portion (x .second) (w 1))) where
+          pub third-room : Room (x .third) (at + x .first + x .second) n2 (portion (x .third) (w 2))
+          third-room = (omega (arith, d .most), omega (arith, d .most, d .few), omega (arith, part-counts .sum-is))
+
+          pub fourth-room : (n3 : ℕ) → n3 ≡ n2 + length (portion (x .third) (w 2)) → Room (x .fourth) (at + x .first + x .second + x .third) n3 (portion (x .fourth) (w 3))
+          fourth-room n3 e3 = (omega (arith, d .most), omega (arith, d .most, d .few), omega (arith, part-counts .sum-is))
 
     -- so the round's list is put, and each image takes its part
     pub round-put : AllPlaced present records → (old b0 b1 b2 b3 b4 : List ℕ) (n1 n2 n3 n4 : ℕ) (m0 t0 m1 t1 m2 t2 m3 t3 : List ℕ) → b0 ≡ front old →
@@ -248,11 +271,3 @@ module _ (limit : ℕ) (present : ℕ → Bool) (records : ℕ → Record) where
           third-taken = f2 .1 .1 ∙ ap (λ (xs : List Burst). storeAll xs m2) c;
           fourth-taken = f3 .1 .1 ∙ ap (λ (xs : List Burst). storeAll xs m3) e;
         }
-
--- it changes no length
-pub put-kept : (parts : List (List Burst)) (buffer after m0 n0 m1 n1 m2 n2 m3 n3 : List ℕ) → RoundPut parts buffer after m0 n0 m1 n1 m2 n2 m3 n3 →
-    (length after ≡ length buffer) × (length n0 ≡ length m0)
-put-kept parts buffer after m0 n0 m1 n1 m2 n2 m3 n3 p = (
-  ap length (p .written) ∙ length-sets buffer 0 (roundList parts),
-  ap length (p .first-taken) ∙ stored-length (partAt parts 0) m0,
-)

@@ -6,7 +6,7 @@ use Rattle.rounds.proofs.round.Statement.{statement}
 use Rattle.rounds.proofs.round.Tie as tie
 
 headers-of-requires : tie.Need-headers-of-requires
-headers-of-requires c κs = search needs
+headers-of-requires c κs = tt
 
 slice-aggregate-round-parts : tie.Need-slice-aggregate-round-parts
 slice-aggregate-round-parts c = search needs
@@ -21,22 +21,22 @@ slice-aggregate-round-parts-4 : tie.Need-slice-aggregate-round-parts-4
 slice-aggregate-round-parts-4 c = search needs
 
 round-parts-requires : tie.Need-round-parts-requires
-round-parts-requires c κs = search needs
+round-parts-requires c κs = tt
 
 with-image-requires : tie.Need-with-image-requires
-with-image-requires c κs = search needs
+with-image-requires c κs = tt
 
 with-image-requires-2 : tie.Need-with-image-requires-2
-with-image-requires-2 c κs = search needs
+with-image-requires-2 c κs = tt
 
 with-image-requires-3 : tie.Need-with-image-requires-3
-with-image-requires-3 c κs = search needs
+with-image-requires-3 c κs = tt
 
 with-image-requires-4 : tie.Need-with-image-requires-4
-with-image-requires-4 c κs = search needs
+with-image-requires-4 c κs = tt
 
 same-length : tie.Need-same-length
-same-length c = search needs
+same-length c = c .before .before .before .before .before .before .before .before .before .before .round-parts .kept .1 .1 .1 .1 .1 .1 .1 .1 .1 .1 .1 .1 .1 .1 .1 .0
 
 returns : tie.Need-returns
 returns c =

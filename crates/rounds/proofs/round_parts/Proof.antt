@@ -11,7 +11,7 @@ use Rattle.rounds.proofs.round_parts.Statement.{statement}
 use Rattle.rounds.proofs.round_parts.Tie as tie
 
 kind-table-requires : tie.Need-kind-table-requires
-kind-table-requires c κs = search needs
+kind-table-requires c κs = tt
 
 slice-aggregate-plan : tie.Need-slice-aggregate-plan
 slice-aggregate-plan c = search needs
@@ -20,7 +20,7 @@ plan-requires : tie.Need-plan-requires
 plan-requires c κs = search needs
 
 is-listed-requires : tie.Need-is-listed-requires
-is-listed-requires c κs = search needs
+is-listed-requires c κs = tt
 
 returns : tie.Need-returns
 returns c =
@@ -44,19 +44,19 @@ put-round-requires c κs =
     (w .0, w .1 .0, q .1 e, w .1 .1)
 
 same-length : tie.Need-same-length
-same-length c = search needs
+same-length c = c .before .before .before .before .before .before .before .before .before .before .put-round .kept .1 .1 .1 .1 .1 .1 .1 .1 .1 .1 .1 .1 .1 .0
 
 same-length-2 : tie.Need-same-length-2
-same-length-2 c = search needs
+same-length-2 c = c .before .before .before .before .before .before .before .before .before .before .put-round .kept .1 .1 .1 .1 .1 .1 .1 .1 .1 .1 .1 .1 .1 .1 .0
 
 same-length-3 : tie.Need-same-length-3
-same-length-3 c = search needs
+same-length-3 c = c .before .before .before .before .before .before .before .before .before .before .put-round .kept .1 .1 .1 .1 .1 .1 .1 .1 .1 .1 .1 .1 .1 .1 .1 .0
 
 same-length-4 : tie.Need-same-length-4
-same-length-4 c = search needs
+same-length-4 c = c .before .before .before .before .before .before .before .before .before .before .put-round .kept .1 .1 .1 .1 .1 .1 .1 .1 .1 .1 .1 .1 .1 .1 .1 .1 .0
 
 same-length-5 : tie.Need-same-length-5
-same-length-5 c = search needs
+same-length-5 c = c .before .before .before .before .before .before .before .before .before .before .put-round .kept .0
 
 returns-2 : tie.Need-returns-2
 returns-2 c =
