@@ -23,16 +23,16 @@ use Rattle.rounds.specs.Round.{atPlace, presentAt, recordAt, takes, partAt, cou
 use Rattle.rounds.specs.ListLaws.{few-parts}
 use Rattle.rounds.specs.DealLaws.{round-takes, round-bytes, parts-ready}
 use Rattle.rounds.specs.Dealing.{recordsOf, ImagesAfter}
-use Rattle.capi.specs.Capi.{headerIn, settingsAt, imageAt, recordIn, headerBytes, recordBytes, recordSize, putImage, placeAt, recordFrom, recordsIn, headersIn, recordsBytes, keptAt, keptAll, roundSized, roundAnswerBy, Fits}
-use Rattle.capi.specs.CapiLaws.{Whole, record-length, records-round, round-sized}
+use Rattle.capi.specs.Capi.{headerIn, marksAt, settingsAt, imageAt, recordIn, headerBytes, recordBytes, recordSize, putImage, placeAt, recordFrom, recordsIn, headersIn, recordsBytes, keptAt, keptLast, keptAll, roundSized, roundAnswerBy, Fits}
+use Rattle.capi.specs.CapiLaws.{Whole, record-length, records-round}
 use Rattle.capi.proofs.InPlace.{part-length}
 
 -- ---- what is read
 
-pub header-read : (bytes : List ℕ) (at : ℕ) →
-    headerOf (getD bytes at 0) (getD bytes (at + 1) 0) (getD bytes (at + 2) 0) (getD bytes (at + 3) 0) ≡ headerIn (drop at bytes)
+pub header-read : (bytes : List ℕ) (at marks : ℕ) → marks ≡ getD bytes (at + marksAt) 0 →
+    headerOf (getD bytes at 0) (getD bytes (at + 1) 0) (getD bytes (at + 2) 0) marks ≡ headerIn (drop at bytes)
 unfolding headerIn
-header-read bytes at = rw (getD-drop at bytes 0 0, getD-drop at bytes 1 0, getD-drop at bytes 2 0, getD-drop at bytes 3 0, add-zero at) refl
+header-read bytes at marks e = rw (e, getD-drop at bytes 0 0, getD-drop at bytes 1 0, getD-drop at bytes 2 0, getD-drop at bytes 3 0, add-zero at) refl
 
 pub headers-read : (bytes : List ℕ) (a b c d : Header) → a ≡ headerIn (drop (placeAt 0) bytes) → b ≡ headerIn (drop (placeAt 1) bytes) →
     c ≡ headerIn (drop (placeAt 2) bytes) → d ≡ headerIn (drop (placeAt 3) bytes) →
@@ -212,15 +212,15 @@ module _ (listed present : Bool) (bytes image : List ℕ) (at : ℕ) where
       go true = refl
       go false = refl
 
-pub kept-each : (listed : Bool) (p : Present) (bytes n0 n1 n2 n3 one two three four : List ℕ) →
+pub kept-last-two : (listed : Bool) (p : Present) (bytes n2 n3 three four : List ℕ) → three ≡ keptAt listed (p .third) bytes (placeAt 2 + imageAt) n2 →
+    four ≡ keptAt listed (p .fourth) three (placeAt 3 + imageAt) n3 → four ≡ keptLast listed p bytes n2 n3
+kept-last-two listed p bytes n2 n3 three four e3 e4 = e4 ∙ ap (λ (l : List ℕ). keptAt listed (p .fourth) l (placeAt 3 + imageAt) n3) e3
+
+pub kept-each : (listed : Bool) (p : Present) (bytes n0 n1 n2 n3 one two four : List ℕ) →
     one ≡ keptAt listed (p .first) bytes (placeAt 0 + imageAt) n0 → two ≡ keptAt listed (p .second) one (placeAt 1 + imageAt) n1 →
-    three ≡ keptAt listed (p .third) two (placeAt 2 + imageAt) n2 → four ≡ keptAt listed (p .fourth) three (placeAt 3 + imageAt) n3 →
-    four ≡ keptAll listed p bytes n0 n1 n2 n3
-kept-each listed p bytes n0 n1 n2 n3 one two three four e1 e2 e3 e4 =
-    e4
-    ∙ ap (λ (l : List ℕ). keptAt listed (p .fourth) l (placeAt 3 + imageAt) n3)
-    (e3 ∙ ap (λ (l : List ℕ). keptAt listed (p .third) l (placeAt 2 + imageAt) n2)
-    (e2 ∙ ap (λ (l : List ℕ). keptAt listed (p .second) l (placeAt 1 + imageAt) n1) e1))
+    four ≡ keptLast listed p two n2 n3 → four ≡ keptAll listed p bytes n0 n1 n2 n3
+kept-each listed p bytes n0 n1 n2 n3 one two four e1 e2 e4 =
+    e4 ∙ ap (λ (l : List ℕ). keptLast listed p l n2 n3) (e2 ∙ ap (λ (l : List ℕ). keptAt listed (p .second) l (placeAt 1 + imageAt) n1) e1)
 
 -- ---- the round
 
@@ -339,7 +339,7 @@ round-within r p limit size answer e = subst Fits (sym e) (round-fits (presentAt
 
 module _ (bytes : List ℕ) (present : ℕ) where
   -- on bytes of the right size, with marks of the four places
-  module _ (h : length bytes ≡ placeAt 4) (p : present ≤ 15) (marks : Present) (e : marks ≡ presentBy present) (limit : ℕ) (buffer : List ℕ) (answer : ListAnswer) (new after : List ℕ) where
+  module _ (s : roundSized bytes present ≡ true) (marks : Present) (e : marks ≡ presentBy present) (limit : ℕ) (buffer : List ℕ) (answer : ListAnswer) (new after : List ℕ) where
     abbrev Done : Present → Type 0
     Done m =
         (answer ≡ roundOf (recordsIn bytes) m limit (length buffer) .answer)
@@ -353,4 +353,4 @@ module _ (bytes : List ℕ) (present : ℕ) where
     unfolding roundAnswerBy
     round-called d =
         let x = subst Done e d in
-        (rw (round-sized bytes present h p) (sym (x .0)), (x .1 .0, rw (round-sized bytes present h p) (x .1 .1)))
+        (rw s (sym (x .0)), (x .1 .0, rw s (x .1 .1)))

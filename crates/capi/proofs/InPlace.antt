@@ -174,15 +174,11 @@ module _ (bytes : List ℕ) (h : length bytes ≡ recordSize) where
         (eb ∙ ap (λ (y : Answer). cond (accepted y) (recordBytes host) bytes) e
         ∙ chosen (accepted (f (recordIn bytes))) host (recordIn bytes) bytes ∙ rw (xa, xh) refl)
 
-    pub lost-done : (number : ℕ) (part new : List ℕ) → answer ≡ soundAnswer (recordOf header (settingsIn bytes) (imageIn bytes)) →
-        number ≡ answerNumber answer →
-        part ≡ cond (accepted answer && eqb (length (imageIn bytes)) 908) (resetImage (header .member)) (imageIn bytes) →
-        new ≡ cond (accepted answer) (set (putPart imageAt 908 bytes part) marksAt free) (putPart imageAt 908 bytes part) →
-        Done bytes (powerLostOf (recordIn bytes)) number new
+    pub lost-done : (number : ℕ) (new : List ℕ) → answer ≡ soundAnswer (recordOf header (settingsIn bytes) (imageIn bytes)) → number ≡ answerNumber answer →
+        new ≡ cond (accepted answer) (recordBytes (chipReset (recordIn bytes))) bytes → Done bytes (powerLostOf (recordIn bytes)) number new
     unfolding powerLostOf
-    lost-done number part new ea en ep em =
-        record-done soundAnswer (powerLostOf (recordIn bytes)) (chipReset (recordIn bytes)) number new refl refl ea en
-        (reset-stored header eh (accepted answer) part new ep em)
+    lost-done number new ea en em =
+        record-done soundAnswer (powerLostOf (recordIn bytes)) (chipReset (recordIn bytes)) number new refl refl ea en em
 
     -- Lock puts its mark
     pub lock-done : (number : ℕ) (new : List ℕ) → answer ≡ lockAnswer (recordOf header (settingsIn bytes) (imageIn bytes)) → number ≡ answerNumber answer →

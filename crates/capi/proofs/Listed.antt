@@ -27,7 +27,7 @@ use Rattle.update.specs.SendLaws.{answer-of}
 use Rattle.update.specs.StoredLaws.{stored-is}
 use Rattle.update.specs.BoundLaws.{bus-most, writes-few, size-most}
 use Rattle.capi.specs.Capi.{headerIn, marksAt, settingsIn, imageAt, imageIn, recordIn, recordBytes, recordSize, listAnswer, listBytes, bufferAfter, valueAfter, nAfter, tAfter, storedAfter, neededAfter, Fits, placeNumbers}
-use Rattle.capi.specs.Calls.{transactionCall}
+use Rattle.capi.specs.Calls.{updateCall, updateStores, updateNeeded, transactionCall}
 use Rattle.capi.specs.CapiLaws.{record-sized, refused-stores}
 use Rattle.capi.proofs.InPlace.{putPart, chosen, image-put, reset-stored}
 
@@ -138,6 +138,20 @@ module _ (bytes : List ℕ) (h : length bytes ≡ recordSize) (header : Header) 
           omega (arith, e ∙ stored-is r (length lent) n t (answer-of r (updating r) (length lent) ∙ sym ea ∙ q), f .1)
       go (Short needed) q = omega (arith, e ∙ ap (λ (x : ListAnswer). cond (isListed x) (dataBytes (writesOf r)) 0) (sym ea ∙ q))
       go (Refused refusal) q = omega (arith, e ∙ ap (λ (x : ListAnswer). cond (isListed x) (dataBytes (writesOf r)) 0) (sym ea ∙ q))
+
+  -- so the call does what it promises
+  pub update-called : (part : List ℕ) → part ≡ updateOf r (length lent) .host .image → (count : ℕ) → count ≡ updateStored r (length lent) →
+      (n t stored needed number new-n new-t new-stored new-needed : ℕ) →
+      (number ≡ listNumber answer) × ((new-n ≡ nAfter answer n) × ((new-t ≡ tAfter answer t)
+      × ((new-stored ≡ storedAfter answer count stored) × (new-needed ≡ neededAfter answer needed)))) →
+      (number ≡ updateCall bytes lent n t .answer) × ((putPart imageAt 908 bytes part ≡ updateCall bytes lent n t .bytes)
+      × ((buffer ≡ updateCall bytes lent n t .buffer) × ((new-n ≡ updateCall bytes lent n t .n) × ((new-t ≡ updateCall bytes lent n t .t)
+      × ((new-stored ≡ updateStores bytes lent stored) × (new-needed ≡ updateNeeded bytes lent needed))))))
+  update-called part ep count ec n t stored needed number new-n new-t new-stored new-needed x =
+      let back = update-back part ep in
+      let put = buffer-is updating bytes h header eh lent answer ea buffer eb in
+      let so = stored-by count ec stored new-stored (x .1 .1 .1 .0) in
+      rw (answer-is updating bytes h header eh lent answer ea) (x .0, (back, (put, (x .1 .0, (x .1 .1 .0, (so, x .1 .1 .1 .1))))))
 
 -- ---- what a list's answer stores
 

@@ -126,13 +126,18 @@ recordsBytes r = recordBytes (r .first) ++ (recordBytes (r .second) ++ (recordBy
 abbrev pub keptAt : Bool → Bool → List ℕ → ℕ → List ℕ → List ℕ
 keptAt listed present bytes at image = cond (listed && present) (putImage bytes at image) bytes
 
--- the images of the four places, one after the other
+-- the images of the last two places, one after the other
+abbrev pub keptLast : Bool → Present → List ℕ → List ℕ → List ℕ → List ℕ
+keptLast listed p bytes m2 m3 =
+    let three = keptAt listed (p .third) bytes (placeAt 2 + imageAt) m2 in
+    keptAt listed (p .fourth) three (placeAt 3 + imageAt) m3
+
+-- and of all four
 abbrev pub keptAll : Bool → Present → List ℕ → List ℕ → List ℕ → List ℕ → List ℕ → List ℕ
 keptAll listed p bytes m0 m1 m2 m3 =
     let one = keptAt listed (p .first) bytes (placeAt 0 + imageAt) m0 in
     let two = keptAt listed (p .second) one (placeAt 1 + imageAt) m1 in
-    let three = keptAt listed (p .third) two (placeAt 2 + imageAt) m2 in
-    keptAt listed (p .fourth) three (placeAt 3 + imageAt) m3
+    keptLast listed p two m2 m3
 
 -- neither of "records_size, or present above 15": four records, and no mark beyond them
 unfoldable pub roundSized : List ℕ → ℕ → Bool

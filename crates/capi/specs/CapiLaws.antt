@@ -5,8 +5,8 @@ use mathlib.Core.Bool.{Bool, true, false, cond, _&&_, false≢true}
 use mathlib.Core.List.{List, [], _∷_, _++_, append-assoc, append-nil}
 use Prim.Native.Nat.{ℕ, suc, _+_, _≤_, _<_}
 use native.Mathlib.Omega.{arith}
-use borrow.Author.Tests.{eq-eqb, ne-eqb, le-leb, lt-leb}
-use lib.Dec.{eqb}
+use borrow.Author.Tests.{eq-eqb, ne-eqb, eqb-true, le-leb}
+use lib.Dec.{leb, eqb}
 use lib.ListN.{length, getD, take, drop, set, length-append, length-drop, take-append-drop}
 use lib.Seq.{take-all, take-at, drop-at, take-add, drop-drop}
 use Rattle.map.specs.declared.refusals.Answer.{Answer}
@@ -14,6 +14,7 @@ use Rattle.map.specs.declared.refusals.Answer as answers
 use Rattle.map.specs.declared.refusals.Refusal.{Refusal}
 use Rattle.map.specs.declared.refusals.Refusal.the-variants.{Member, Bus, Pins, NotWritable, ReservedBit, NoDot, Level, GroupOrState, SceneLength, BufferShort, ListSizes, FaultLength, Unsound, RoundLimit, NotItsPlace, Locked, NotLockable, NoTransaction}
 use Rattle.map.specs.Refusals.{refusalNumber, answerNumber, accepted}
+use Rattle.burst.specs.BurstLaws.{and-left}
 use Rattle.host.specs.declared.Record.{Record}
 use Rattle.host.specs.declared.Changed.{Changed}
 use Rattle.host.specs.Record.{recordOf, markedAs}
@@ -171,13 +172,13 @@ module _ (bytes : List ℕ) (present : ℕ) where
   unfolding roundSized
   wrong-records n = rw (ne-eqb (length bytes) (placeAt 4) n) refl
 
-  pub wrong-marks : 15 < present → roundSized bytes present ≡ false
+  pub right-records : length bytes ≡ placeAt 4 → leb present 15 ≡ roundSized bytes present
   unfolding roundSized
-  wrong-marks l = rw (lt-leb present 15 l) (go (eqb (length bytes) (placeAt 4)))
-    where
-      go : (b : Bool) → (b && false) ≡ false
-      go true = refl
-      go false = refl
+  right-records h = rw (eq-eqb (length bytes) (placeAt 4) h) refl
+
+  pub round-size : roundSized bytes present ≡ true → length bytes ≡ placeAt 4
+  unfolding roundSized
+  round-size s = eqb-true (length bytes) (placeAt 4) (and-left (eqb (length bytes) (placeAt 4)) (leb present 15) s)
 
 -- a record with whole images has the size of a record
 pub record-length : (r : Record) → length (r .settings) ≡ 908 → length (r .image) ≡ 908 → length (recordBytes r) ≡ recordSize

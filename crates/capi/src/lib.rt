@@ -9,8 +9,10 @@ mod rounding;
 
 ghost use mathlib.Core.Path.{_≡_};
 ghost use mathlib.Core.List.{[]};
+ghost use lib.ListN.{getD};
 ghost use Rattle.map.specs.declared.refusals.Refusal.the-variants.{Unsound};
 ghost use Rattle.map.specs.Refusals.{refusalNumber};
+ghost use Rattle.faults.specs.Faults.{answerNumbers};
 ghost use Rattle.capi.specs.Calls.{openCall, settingCall, settingNumbersCall, powerLostCall, lockCall, updateCall, updateStores, updateNeeded, resetCall, clearCall, roundCall, transactionCall, faultsCall, chipAtResetCall, chipPowerLostCall, chipFeedCall};
 use burst::Place;
 use calls::Setting;
@@ -22,7 +24,6 @@ use records::IMAGE;
 use records::RECORD_SIZE;
 use records::REGISTERS;
 use records::SETTINGS;
-use rounding::RECORDS_SIZE;
 
 // The answer to bytes of another size: that of an unsound record.
 fn wrong_size() -> u32
@@ -144,8 +145,7 @@ pub extern "C" fn lp586x_power_lost(bytes: &mut [u8]) -> u32
     }
     let header = records::header(bytes);
     let answer = host::sound_answer(header, &bytes[SETTINGS..IMAGE], &bytes[IMAGE..RECORD_SIZE]);
-    host::put_lost(answer, header, &mut bytes[IMAGE..RECORD_SIZE]);
-    records::mark(answer, bytes, host::FREE);
+    records::put_lost(answer, header, bytes);
     map::answer_number(answer) as u32
 }
 
@@ -190,9 +190,7 @@ pub extern "C" fn lp586x_update(
     let image = &bytes[IMAGE..RECORD_SIZE];
     let answer = update::update_parts(header, settings, image, buffer);
     let sent = update::store_sent(answer, header, &mut bytes[IMAGE..RECORD_SIZE], buffer);
-    lists::put_stored(answer, sent, stored);
-    lists::put_needed(answer, needed);
-    lists::count(answer, n, t)
+    lists::put_update(answer, sent, n, t, stored, needed)
 }
 
 #[no_mangle]
@@ -247,10 +245,7 @@ pub extern "C" fn lp586x_round(
     ensures { λ _. ⌜ now (n .exit) ≡ roundCall (now (bytes .entry)) present limit (now (buffer .entry)) (now (n .entry)) (now (t .entry)) .n ⌝ }
     ensures { λ _. ⌜ now (t .exit) ≡ roundCall (now (bytes .entry)) present limit (now (buffer .entry)) (now (n .entry)) (now (t .entry)) .t ⌝ }
 {
-    if bytes.len() != RECORDS_SIZE {
-        return wrong_size();
-    }
-    if present > 15 {
+    if !rounding::sized(bytes, present) {
         return wrong_size();
     }
     let marks = rounds::present_by(present as usize);
@@ -286,6 +281,25 @@ pub extern "C" fn lp586x_transaction(
 
 // ---- Lamp faults
 
+// The number of the answer, and the two answers about 064h.
+fn agree(answer: faults::Answer, opens: &mut u32, shorts: &mut u32) -> u32
+    ensures { λ r. ⌜ r ≡ getD (answerNumbers answer) 0 0 ⌝ }
+    ensures { λ _. ⌜ now (opens .exit) ≡ getD (answerNumbers answer) 1 (now (opens .entry)) ⌝ }
+    ensures { λ _. ⌜ now (shorts .exit) ≡ getD (answerNumbers answer) 2 (now (shorts .entry)) ⌝ }
+{
+    match answer {
+        faults::Answer::Read {
+            opens_agree,
+            shorts_agree,
+        } => {
+            *opens = opens_agree as u32;
+            *shorts = shorts_agree as u32;
+            0
+        }
+        faults::Answer::Refused(refusal) => map::refusal_number(refusal) as u32,
+    }
+}
+
 #[no_mangle]
 pub extern "C" fn lp586x_faults(
     bytes: &[u8],
@@ -306,17 +320,7 @@ pub extern "C" fn lp586x_faults(
     let settings = &bytes[SETTINGS..IMAGE];
     let image = &bytes[IMAGE..RECORD_SIZE];
     let answer = faults::faults_parts(header, settings, image, given, result);
-    match answer {
-        faults::Answer::Read {
-            opens_agree,
-            shorts_agree,
-        } => {
-            *opens = opens_agree as u32;
-            *shorts = shorts_agree as u32;
-            0
-        }
-        faults::Answer::Refused(refusal) => map::refusal_number(refusal) as u32,
-    }
+    agree(answer, opens, shorts)
 }
 
 // ---- The chip model

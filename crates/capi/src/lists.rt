@@ -96,3 +96,24 @@ pub(crate) fn put_needed(answer: ListAnswer, needed: &mut u32)
         ListAnswer::Refused(_) => {}
     }
 }
+
+// The number of an update's answer, and all that it stores.
+pub(crate) fn put_update(
+    answer: ListAnswer,
+    sent: usize,
+    n: &mut u32,
+    t: &mut u32,
+    stored: &mut u32,
+    needed: &mut u32,
+) -> u32
+    requires { ⌜ Fits answer × (sent < 2 ^ 32) ⌝ }
+    ensures { λ r. ⌜ r ≡ listNumber answer ⌝ }
+    ensures { λ _. ⌜ now (n .exit) ≡ nAfter answer (now (n .entry)) ⌝ }
+    ensures { λ _. ⌜ now (t .exit) ≡ tAfter answer (now (t .entry)) ⌝ }
+    ensures { λ _. ⌜ now (stored .exit) ≡ storedAfter answer sent (now (stored .entry)) ⌝ }
+    ensures { λ _. ⌜ now (needed .exit) ≡ neededAfter answer (now (needed .entry)) ⌝ }
+{
+    put_stored(answer, sent, stored);
+    put_needed(answer, needed);
+    count(answer, n, t)
+}

@@ -3,11 +3,11 @@ ghost use mathlib.Core.Path.{_≡_};
 ghost use mathlib.Core.Bool.{cond};
 ghost use mathlib.Core.List.{_∷_};
 ghost use Prim.Native.Nat.{_+_, _<_, _≤_};
-ghost use lib.ListN.{length, take, drop, set};
+ghost use lib.ListN.{length, getD, take, drop, set};
 ghost use Rattle.map.specs.Refusals.{accepted};
-ghost use Rattle.host.specs.Record.{opened};
+ghost use Rattle.host.specs.Record.{opened, free, chipReset};
 ghost use Rattle.chip.specs.Chip.{newChip};
-ghost use Rattle.capi.specs.Capi.{headerIn, marksAt, putImage, recordBytes, recordSize, chipBytes, chipSize};
+ghost use Rattle.capi.specs.Capi.{headerIn, marksAt, putImage, recordIn, recordBytes, recordSize, chipBytes, chipSize};
 use host::Header;
 use map::Answer;
 
@@ -25,6 +25,13 @@ pub(crate) const REGISTERS: usize = 3;
 
 pub(crate) const CHIP_SIZE: usize = REGISTERS + 908;
 
+fn marks(bytes: &[u8]) -> u8
+    requires { ⌜ 4 ≤ length (now bytes) ⌝ }
+    ensures { λ r. ⌜ r ≡ getD (now (bytes .entry)) marksAt 0 ⌝ }
+{
+    bytes[MARKS] // behind the front
+}
+
 pub(crate) fn header(bytes: &[u8]) -> Header
     requires { ⌜ 4 ≤ length (now bytes) ⌝ }
     ensures { λ r. ⌜ r ≡ headerIn (now (bytes .entry)) ⌝ }
@@ -33,7 +40,7 @@ pub(crate) fn header(bytes: &[u8]) -> Header
         member: bytes[0],
         bus: bytes[1],
         pins: bytes[2],
-        marks: bytes[MARKS],
+        marks: marks(bytes),
     }
 }
 
@@ -81,6 +88,15 @@ pub(crate) fn mark(answer: Answer, bytes: &mut [u8], marks: u8)
     }
 }
 
+// What a power loss leaves of a record: the member's reset values for the chip image, and no lock.
+pub(crate) fn put_lost(answer: Answer, header: Header, bytes: &mut [u8])
+    requires { ⌜ (length (now bytes) ≡ recordSize) × (header ≡ headerIn (now bytes)) ⌝ }
+    ensures { λ _. ⌜ now (bytes .exit) ≡ cond (accepted answer) (recordBytes (chipReset (recordIn (now (bytes .entry))))) (now (bytes .entry)) ⌝ }
+{
+    host::put_lost(answer, header, &mut bytes[IMAGE..RECORD_SIZE]);
+    mark(answer, bytes, host::FREE);
+}
+
 // The bytes that a record and a chip begin with.
 fn put_front(bytes: &mut [u8], member: u8, bus: u8, pins: u8)
     requires { ⌜ 3 ≤ length (now bytes) ⌝ }
@@ -91,13 +107,21 @@ fn put_front(bytes: &mut [u8], member: u8, bus: u8, pins: u8)
     bytes[2] = pins;
 }
 
-// A record that was opened: the front, no lock, and the member's reset values for both images.
+// The header of a record that was opened: the front, and no lock.
+fn put_header(bytes: &mut [u8], member: u8, bus: u8, pins: u8)
+    requires { ⌜ 4 ≤ length (now bytes) ⌝ }
+    ensures { λ _. ⌜ now (bytes .exit) ≡ set (member ∷ bus ∷ pins ∷ drop 3 (now (bytes .entry))) marksAt free ⌝ }
+{
+    put_front(bytes, member, bus, pins);
+    put_marks(bytes, host::FREE);
+}
+
+// A record that was opened: its header, and the member's reset values for both images.
 pub(crate) fn put_record(bytes: &mut [u8], member: usize, bus: usize, pins: usize)
     requires { ⌜ (length (now bytes) ≡ recordSize) × (member < 5) × (bus < 2) × (pins < 4) ⌝ }
     ensures { λ _. ⌜ now (bytes .exit) ≡ recordBytes (opened member bus pins) ⌝ }
 {
-    put_front(bytes, member as u8, bus as u8, pins as u8);
-    put_marks(bytes, host::FREE);
+    put_header(bytes, member as u8, bus as u8, pins as u8);
     images::put_reset(member, &mut bytes[SETTINGS..IMAGE]); // the settings
     images::put_reset(member, &mut bytes[IMAGE..RECORD_SIZE]); // the chip image
 }

@@ -2,11 +2,11 @@
 ghost use mathlib.Core.Path.{_≡_};
 ghost use mathlib.Core.Bool.{cond};
 ghost use Prim.Native.Nat.{_+_, _≤_};
-ghost use lib.ListN.{length, drop};
+ghost use lib.ListN.{length, getD, drop};
 ghost use Rattle.update.specs.Update.{isListed};
 ghost use Rattle.rounds.specs.Round.{atPlace, presentAt, recordAt, roundAnswer, roundBuffer, roundOf};
 ghost use Rattle.rounds.specs.Dealing.{ImagesAfter};
-ghost use Rattle.capi.specs.Capi.{headerIn, placeAt, recordsIn, recordsBytes, headersIn, keptAt, keptAll};
+ghost use Rattle.capi.specs.Capi.{headerIn, marksAt, placeAt, recordsIn, recordsBytes, headersIn, keptAt, keptLast, keptAll, roundSized};
 use crate::lists;
 use crate::records;
 use crate::records::IMAGE;
@@ -37,7 +37,24 @@ const FOURTH_SETTINGS: usize = FOURTH + SETTINGS;
 
 const FOURTH_IMAGE: usize = FOURTH + IMAGE;
 
-pub(crate) const RECORDS_SIZE: usize = FOURTH + RECORD_SIZE;
+const RECORDS_SIZE: usize = FOURTH + RECORD_SIZE;
+
+// Four records, and no mark beyond them.
+pub(crate) fn sized(bytes: &[u8], present: u32) -> bool
+    ensures { λ r. ⌜ r ≡ roundSized (now (bytes .entry)) present ⌝ }
+{
+    if bytes.len() != RECORDS_SIZE {
+        return false;
+    }
+    present <= 15
+}
+
+fn marks(bytes: &[u8], at: usize) -> u8
+    requires { ⌜ at + 4 ≤ length (now bytes) ⌝ }
+    ensures { λ r. ⌜ r ≡ getD (now (bytes .entry)) (at + marksAt) 0 ⌝ }
+{
+    bytes[at + MARKS]
+}
 
 fn header(bytes: &[u8], at: usize) -> Header
     requires { ⌜ at + 4 ≤ length (now bytes) ⌝ }
@@ -47,7 +64,7 @@ fn header(bytes: &[u8], at: usize) -> Header
         member: bytes[at],
         bus: bytes[at + 1],
         pins: bytes[at + 2],
-        marks: bytes[at + MARKS],
+        marks: marks(bytes, at),
     }
 }
 
@@ -118,7 +135,22 @@ fn keep(answer: ListAnswer, present: bool, bytes: &mut [u8], at: usize, image: &
     }
 }
 
-// The images that the round leaves, each into its own record.
+// The images that the round leaves of the last two places, each into its own record.
+fn put_back_last(
+    answer: ListAnswer,
+    present: Present,
+    bytes: &mut [u8],
+    m2: &[u8; 908],
+    m3: &[u8; 908],
+)
+    requires { ⌜ (length (now bytes) ≡ placeAt 4) × (length (now m2) ≡ 908) × (length (now m3) ≡ 908) ⌝ }
+    ensures { λ _. ⌜ now (bytes .exit) ≡ keptLast (isListed answer) present (now (bytes .entry)) (now (m2 .entry)) (now (m3 .entry)) ⌝ }
+{
+    keep(answer, present.third, bytes, THIRD_IMAGE, m2);
+    keep(answer, present.fourth, bytes, FOURTH_IMAGE, m3);
+}
+
+// And of all four.
 fn put_back(
     answer: ListAnswer,
     present: Present,
@@ -134,8 +166,7 @@ fn put_back(
 {
     keep(answer, present.first, bytes, IMAGE, m0);
     keep(answer, present.second, bytes, SECOND_IMAGE, m1);
-    keep(answer, present.third, bytes, THIRD_IMAGE, m2);
-    keep(answer, present.fourth, bytes, FOURTH_IMAGE, m3);
+    put_back_last(answer, present, bytes, m2, m3);
 }
 
 // A round on bytes of the right size.

@@ -35,20 +35,8 @@ part-sound-answer-end-2 c = search needs
 sound-answer-requires : tie.Need-sound-answer-requires
 sound-answer-requires c κs = search needs
 
-sub-put-lost : tie.Need-sub-put-lost
-sub-put-lost c = search needs
-
-part-put-lost-start : tie.Need-part-put-lost-start
-part-put-lost-start c = search needs
-
-part-put-lost-end : tie.Need-part-put-lost-end
-part-put-lost-end c = search needs
-
 put-lost-requires : tie.Need-put-lost-requires
-put-lost-requires c κs = search needs
-
-mark-requires : tie.Need-mark-requires
-mark-requires c κs = search needs
+put-lost-requires c κs = (c .before .before .before .before .before .before .before .if1 .left, c .before .before .before .before .before .header .ensures)
 
 answer-number-requires : tie.Need-answer-number-requires
 answer-number-requires c κs = search needs
@@ -61,12 +49,9 @@ same-length c = search needs
 
 returns-2 : tie.Need-returns-2
 returns-2 c =
-    let marked = c .before .before .before in
-    let stored = marked .before .before .before .before in
-    let tested = stored .before .before in
+    let tested = c .before .before .before .before .before in
     let read = tested .before .before .before .before in
-    lost-done _ (read .before .before .if1 .left) _ (read .header .ensures) _ _ _ _ (tested .sound-answer .ensures) (c .answer-number .ensures)
-    (stored .put-lost .ensures) (marked .mark .ensures)
+    lost-done _ (read .before .before .if1 .left) _ (read .header .ensures) _ _ _ (tested .sound-answer .ensures) (c .answer-number .ensures) (c .before .before .before .put-lost .ensures)
 
 pub lp586x-power-lost-spec : {M : Type 1} → statement M
 lp586x-power-lost-spec =
@@ -82,11 +67,7 @@ lp586x-power-lost-spec =
     part-sound-answer-start-2
     part-sound-answer-end-2
     sound-answer-requires
-    sub-put-lost
-    part-put-lost-start
-    part-put-lost-end
     put-lost-requires
-    mark-requires
     answer-number-requires
     cast-result
     same-length

@@ -1,11 +1,12 @@
 -- `capi::lp586x_reset` meets its contract.
 -- Assumes nothing.
-use mathlib.Core.Path.{refl}
+use mathlib.Core.Path.{refl, _∙_}
 use native.Mathlib.Omega.{arith}
 use Rattle.capi.specs.CapiLaws.{record-unsized}
-use Rattle.capi.specs.Capi.{listAnswer, listBytes, bufferAfter, valueAfter}
+use Rattle.capi.specs.Capi.{imageAt, listAnswer, listBytes, bufferAfter, valueAfter}
 use Rattle.update.specs.Update.{resetting}
 use Rattle.capi.proofs.Listed.{command-within, answer-is, buffer-is, reset-back}
+use borrow.Rule.Slice.PartMut.{same-len-mid}
 use borrow.Author.Needs.{needs}
 use Rattle.capi.proofs.lp586x_reset.Statement.{statement}
 use Rattle.capi.proofs.lp586x_reset.Tie as tie
@@ -62,10 +63,13 @@ count-requires c κs =
     command-within _ _ _ _ _ (omega arith) _ (kept .before .before .before .before .reset-parts .ensures .0)
 
 same-length : tie.Need-same-length
-same-length c = search needs
+same-length c =
+    let released = c .before .before .before .before .before in
+    let kept = released .before .before .before .before in
+    released .release .kept .1 .0 ∙ same-len-mid imageAt 908 (kept .before .before .before .before .before .before .before .before .before .before .before .before .before .before .args .bytes .now) (kept .keep-reset .last .1 .1 .0) (kept .keep-reset .kept .1 .1 .0)
 
 same-length-2 : tie.Need-same-length-2
-same-length-2 c = search needs
+same-length-2 c = c .before .before .before .before .before .before .before .before .before .before .before .before .before .reset-parts .kept .1 .1 .1 .0
 
 returns-2 : tie.Need-returns-2
 returns-2 c =

@@ -1,10 +1,10 @@
 -- `capi::lp586x_update` meets its contract.
 -- Assumes nothing.
 use mathlib.Core.Path.{refl}
-use Rattle.update.specs.Update.{updating}
-use Rattle.capi.specs.Capi.{listAnswer, listBytes, bufferAfter, valueAfter}
+use Rattle.capi.specs.Capi.{imageAt, listAnswer, listBytes, bufferAfter, valueAfter}
 use Rattle.capi.specs.CapiLaws.{record-unsized}
-use Rattle.capi.proofs.Listed.{update-within, answer-is, buffer-is, sent-so, update-back, stored-fits, stored-by}
+use Rattle.capi.proofs.Listed.{update-within, sent-so, stored-fits, update-called}
+use borrow.Rule.Slice.PartMut.{same-len-mid}
 use borrow.Author.Needs.{needs}
 use Rattle.capi.proofs.lp586x_update.Statement.{statement}
 use Rattle.capi.proofs.lp586x_update.Tie as tie
@@ -52,58 +52,37 @@ part-store-sent-end c = search needs
 store-sent-requires : tie.Need-store-sent-requires
 store-sent-requires c κs = search needs
 
-put-stored-requires : tie.Need-put-stored-requires
-put-stored-requires c κs =
-    let sent = c .before .before .before .before .before .before .before .before in
+put-update-requires : tie.Need-put-update-requires
+put-update-requires c κs =
+    let sent = c .before .before .before .before .before .before .before .before .before .before .before in
     let read = sent .before .before .before .before .before in
-    let begun = read .before .before .before .before .before in
-    let bytes = begun .args .bytes .now in
-    let buffer = begun .args .buffer .now in
-    let sized = read .before .before .if1 .left in
-    let header = read .header .ensures in
+    let a = read .before .before .before .before .before .args in
     let made = sent .update-parts .ensures in
-    stored-fits bytes sized _ header buffer _ _ (made .0) (made .1) _ (c .before .before .before .store-sent .ensures .0 _ _ (sent-so bytes sized _ header buffer _ _ (made .0) (made .1)))
-
-put-needed-requires : tie.Need-put-needed-requires
-put-needed-requires c κs = update-within _ _ _ (c .before .before .before .before .before .before .before .before .before .before .update-parts .ensures .0)
-
-count-requires : tie.Need-count-requires
-count-requires c κs = update-within _ _ _ (c .before .before .before .before .before .before .before .before .before .before .before .before .before .update-parts .ensures .0)
+    let told = sent-so (a .bytes .now) (read .before .before .if1 .left) _ (read .header .ensures) (a .buffer .now) _ _ (made .0) (made .1) in (
+      update-within _ _ _ (made .0),
+      stored-fits (a .bytes .now) (read .before .before .if1 .left) _ (read .header .ensures) (a .buffer .now) _ _ (made .0) (made .1) _ (c .before .before .before .before .before .before .store-sent .ensures .0 _ _ told),
+    )
 
 same-length : tie.Need-same-length
-same-length c = search needs
+same-length c =
+    let stored = c .before .before .before .before .before .before .before in
+    same-len-mid imageAt 908 (stored .before .before .before .before .before .before .before .before .before .before .before .before .before .before .before .args .bytes .now) (stored .store-sent .last .1 .1 .0) (stored .store-sent .kept .1 .1 .0)
 
 same-length-2 : tie.Need-same-length-2
-same-length-2 c = search needs
+same-length-2 c = c .before .before .before .before .before .before .before .before .before .before .before .before .update-parts .kept .1 .1 .1 .0
 
 returns-2 : tie.Need-returns-2
 returns-2 c =
-    let sent = c .before .before .before .before .before .before .before .before .before .before .before .before .before .before in
+    let sent = c .before .before .before .before .before .before .before .before .before .before .before .before in
     let read = sent .before .before .before .before .before in
-    let begun = read .before .before .before .before .before in
-    let bytes = begun .args .bytes .now in
-    let buffer = begun .args .buffer .now in
+    let a = read .before .before .before .before .before .args in
     let sized = read .before .before .if1 .left in
     let header = read .header .ensures in
     let made = sent .update-parts .ensures in
-    let told = sent-so bytes sized _ header buffer _ _ (made .0) (made .1) in
-    let taken = c .before .before .before .before .before .before .before .before .before .store-sent .ensures in
-    rw (answer-is updating bytes sized _ header buffer _ (made .0)) (
-      c .count .ensures .0,
-      (
-        update-back bytes sized _ header buffer _ _ (made .0) (made .1) _ (taken .1 _ _ told),
-        (
-          buffer-is updating bytes sized _ header buffer _ (made .0) _ (made .1),
-          (
-            c .count .ensures .1 .0,
-            (
-              c .count .ensures .1 .1,
-              (stored-by bytes sized _ header buffer _ _ (made .0) (made .1) _ (taken .0 _ _ told) _ _ (c .before .before .before .before .before .put-stored .ensures), c .before .before .before .put-needed .ensures),
-            ),
-          ),
-        ),
-      ),
-    )
+    let told = sent-so (a .bytes .now) sized _ header (a .buffer .now) _ _ (made .0) (made .1) in
+    let taken = c .before .before .before .before .before .before .before .store-sent .ensures in
+    update-called (a .bytes .now) sized _ header (a .buffer .now) _ _ (made .0) (made .1) _ (taken .1 _ _ told) _ (taken .0 _ _ told)
+    (a .n .now) (a .t .now) (a .stored .now) (a .needed .now) _ _ _ _ _ (c .put-update .ensures)
 
 pub lp586x-update-spec : {M : Type 1} → statement M
 lp586x-update-spec =
@@ -123,9 +102,7 @@ lp586x-update-spec =
     part-store-sent-start
     part-store-sent-end
     store-sent-requires
-    put-stored-requires
-    put-needed-requires
-    count-requires
+    put-update-requires
     same-length
     same-length-2
     returns-2)

@@ -1,6 +1,8 @@
 -- `capi::records::header` meets its contract.
 -- Assumes nothing.
-use mathlib.Core.Path.{refl}
+use mathlib.Core.Path.{ap}
+use lib.ListN.{getD}
+use Rattle.host.specs.Record.{headerOf}
 use Rattle.capi.specs.Capi.{headerIn}
 use borrow.Author.Needs.{needs}
 use Rattle.capi.proofs.records.header.Statement.{statement}
@@ -15,12 +17,14 @@ shared-slice-read-t5 c = search needs
 shared-slice-read-t7 : tie.Need-shared-slice-read-t7
 shared-slice-read-t7 c = search needs
 
-shared-slice-read-t9 : tie.Need-shared-slice-read-t9
-shared-slice-read-t9 c = search needs
+marks-requires : tie.Need-marks-requires
+marks-requires c κs = search needs
 
 returns : tie.Need-returns
 unfolding headerIn
-returns c = refl
+returns c =
+    let b = c .before .before .before .before .before .args .bytes .now in
+    ap (headerOf (getD b 0 0) (getD b 1 0) (getD b 2 0)) (c .marks .ensures)
 
 pub header-spec : {M : Type 1} → statement M
 header-spec =
@@ -29,5 +33,5 @@ header-spec =
     shared-slice-read-t3
     shared-slice-read-t5
     shared-slice-read-t7
-    shared-slice-read-t9
+    marks-requires
     returns)

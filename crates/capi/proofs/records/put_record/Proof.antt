@@ -1,24 +1,22 @@
 -- `capi::records::put_record` meets its contract.
 -- Assumes nothing.
+use mathlib.Core.Path.{refl}
 use Rattle.capi.proofs.InPlace.{record-put}
 use borrow.Author.Needs.{needs}
 use Rattle.capi.proofs.records.put_record.Statement.{statement}
 use Rattle.capi.proofs.records.put_record.Tie as tie
 
-cast-put-front : tie.Need-cast-put-front
-cast-put-front c = search needs
+cast-put-header : tie.Need-cast-put-header
+cast-put-header c = search needs
 
-cast-put-front-2 : tie.Need-cast-put-front-2
-cast-put-front-2 c = search needs
+cast-put-header-2 : tie.Need-cast-put-header-2
+cast-put-header-2 c = search needs
 
-cast-put-front-3 : tie.Need-cast-put-front-3
-cast-put-front-3 c = search needs
+cast-put-header-3 : tie.Need-cast-put-header-3
+cast-put-header-3 c = search needs
 
-put-front-requires : tie.Need-put-front-requires
-put-front-requires c κs = search needs
-
-put-marks-requires : tie.Need-put-marks-requires
-put-marks-requires c κs = search needs
+put-header-requires : tie.Need-put-header-requires
+put-header-requires c κs = search needs
 
 sub-put-reset : tie.Need-sub-put-reset
 sub-put-reset c = search needs
@@ -50,21 +48,20 @@ same-length c = search needs
 returns : tie.Need-returns
 returns c =
     let filled = c .before .before .before .before .before .before in
-    let marked = filled .before .before .before .before in
-    let fronted = marked .before .before .before .before in
-    let begun = fronted .before .before .before in
-    record-put _ _ _ (begun .args .bytes .now) _ (fronted .put-front .ensures) _ _ _ (begun .pre .0) (marked .put-marks .ensures)
-    (filled .put-reset .ensures) (c .before .before .put-reset2 .ensures)
+    let headed = filled .before .before .before .before in
+    let begun = headed .before .before .before in
+    let a = begun .args in
+    record-put (a .member) (a .bus) (a .pins) (a .bytes .now) _ refl _ _ _ (begun .pre .0) (headed .put-header .ensures) (filled .put-reset .ensures)
+    (c .before .before .put-reset2 .ensures)
 
 pub put-record-spec : {M : Type 1} → statement M
 put-record-spec =
     tie.close
     (tie.spec
-    cast-put-front
-    cast-put-front-2
-    cast-put-front-3
-    put-front-requires
-    put-marks-requires
+    cast-put-header
+    cast-put-header-2
+    cast-put-header-3
+    put-header-requires
     sub-put-reset
     part-put-reset-start
     part-put-reset-end

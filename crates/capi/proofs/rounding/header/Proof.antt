@@ -20,14 +20,13 @@ add-t8 c = search needs
 shared-slice-read-t10 : tie.Need-shared-slice-read-t10
 shared-slice-read-t10 c = search needs
 
-add-t11 : tie.Need-add-t11
-add-t11 c = search needs
-
-shared-slice-read-t13 : tie.Need-shared-slice-read-t13
-shared-slice-read-t13 c = search needs
+marks-requires : tie.Need-marks-requires
+marks-requires c κs = search needs
 
 returns : tie.Need-returns
-returns c = header-read (c .before .before .before .before .args .bytes .now) (c .before .before .before .before .args .at)
+returns c =
+    let a = c .before .before .before .before .before .args in
+    header-read (a .bytes .now) (a .at) _ (c .marks .ensures)
 
 pub header-spec : {M : Type 1} → statement M
 header-spec =
@@ -38,6 +37,5 @@ header-spec =
     shared-slice-read-t7
     add-t8
     shared-slice-read-t10
-    add-t11
-    shared-slice-read-t13
+    marks-requires
     returns)

@@ -82,10 +82,10 @@ part-round-parts-end-8 : tie.Need-part-round-parts-end-8
 part-round-parts-end-8 c = omega arith
 
 round-parts-requires : tie.Need-round-parts-requires
-round-parts-requires c κs = search needs
+round-parts-requires c κs = tt
 
 same-length : tie.Need-same-length
-same-length c = search needs
+same-length c = c .before .before .round-parts .kept .1 .1 .1 .1 .1 .1 .1 .1 .1 .1 .1 .1 .1 .1 .1 .0
 
 returns : tie.Need-returns
 returns c =
