@@ -1,8 +1,8 @@
 /* POSIX's memory and signals as far as the tests use them, over the memory protection unit of a Cortex-M3 or M4 (ARMv7-M).
  *
- * A page has 256 KiB. Eight MiB are 32 pages in four blocks of 2 MiB. The unit has eight regions: for each block one that may not be touched
- * and one that may only be read, of which single pages, an eighth of a region each, are turned on. All other memory is open. A fault that the unit makes is
- * SIGSEGV: where the handler has opened the page, the instruction is done again.
+ * A page has 256 KiB. Eight MiB are 32 pages in four blocks of 2 MiB. The unit has eight regions: for each block one that may not be touched and
+ * one that may only be read, of which single pages, an eighth of a region each, are turned on. All other memory is open. A fault that the
+ * unit makes is SIGSEGV: where the handler has opened the page, the instruction is done again.
  */
 #include <signal.h>
 #include <stdint.h>
