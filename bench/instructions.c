@@ -1,5 +1,5 @@
-/* One case for callgrind to count. Arguments: implementation (library, reference), case number, member, and whether the call is made.
- * Its state is put back a thousand times; the call is made each time, or never. The difference of two counts is a thousand calls. With no
+/* One case for callgrind or an emulator to count. Arguments: implementation (library, reference), case number, member, and whether the call
+ * is made. Its state is put back TIMES times; the call is made each time, or never. The difference of two counts is as many calls. With no
  * arguments the names of the cases are printed.
  */
 #include <stdio.h>
@@ -9,7 +9,9 @@
 #include "../tests/c/reference.h"
 #include "cases.h"
 
-enum { TIMES = 1000 };
+#ifndef TIMES
+#define TIMES 1000
+#endif
 
 static void names(void)
 {

@@ -66,7 +66,7 @@ int main(void)
             prepare_case(&cases[i], &state, 0);
             of[side] = depth(&cases[i], side == 0 ? &library : &reference) - nothing;
         }
-        printf("%zu %zu %s\n", of[0], of[1], cases[i].name);
+        printf("%u %u %s\n", (unsigned)of[0], (unsigned)of[1], cases[i].name);
     }
     return 0;
 }

@@ -154,6 +154,7 @@ static void longest_rounds(uint32_t member)
     }
 }
 
+#if SIZE_MAX > UINT32_MAX
 static void rounds_beyond_32_bits(uint8_t *memory, size_t four_gib)
 {
     uint8_t records[LP586X_RECORDS_SIZE], buffer[LP586X_ROUND_SIZE];
@@ -205,6 +206,20 @@ static void sizes_beyond_32_bits(const struct world *world)
     munmap(memory, four_gib + ROOM_BEHIND);
 }
 
+static void group_sizes_beyond_32_bits(const struct world *world)
+{
+    group("sizes beyond 32 bits");
+    sizes_beyond_32_bits(world);
+    group_done("");
+}
+#else
+/* There are none where size_t has 32 bits. */
+static void group_sizes_beyond_32_bits(const struct world *world)
+{
+    (void)world;
+}
+#endif
+
 void group_sizes(void)
 {
     struct world world, synced;
@@ -223,6 +238,6 @@ void group_sizes(void)
     round_sizes();
     for (uint32_t member = LP586X_LP5860; member <= LP586X_LP5868T; member++)
         longest_rounds(member);
-    sizes_beyond_32_bits(&world);
     group_done("");
+    group_sizes_beyond_32_bits(&world);
 }

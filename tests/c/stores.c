@@ -3,6 +3,9 @@
  * through, and must begin at a byte that the list sends. Where only the bytes in front of the list's first address may not be changed,
  * or those behind its last one, there must be no store into them. Of the same kind: a lock stores the marks alone, a reset and a power
  * loss the marks and the chip image. The library and the reference do each.
+ *
+ * Behind a store the memory may only be read again, for which the processor must stop there. That is so on x86-64. Elsewhere the memory
+ * stays open until the call is over, so that of each call the first store alone is noted; the groups say so where they print.
  */
 #define _GNU_SOURCE
 #include "stores.h"
@@ -79,7 +82,7 @@ int list_names(const uint8_t *list, uint32_t bus, uint32_t address, uint32_t cou
 
 enum part { FRONT, BEHIND };
 
-enum { NOWHERE = -1, TRAP_FLAG = 0x100 };
+enum { NOWHERE = -1 };
 
 struct trial {
     struct outcome outcome;
@@ -103,7 +106,28 @@ static int all_open(void)
     return mprotect(memory, 2 * page, PROT_READ | PROT_WRITE) == 0;
 }
 
-/* A store: it is noted and let through. The processor stops behind it. */
+#ifdef __x86_64__
+static const char noted[] = "";
+
+/* The processor stops behind the next instruction, or no longer. */
+static void step(void *context, int on)
+{
+    const greg_t trap_flag = 0x100;
+    greg_t *flags = &((ucontext_t *)context)->uc_mcontext.gregs[REG_EFL];
+
+    *flags = on ? *flags | trap_flag : *flags & ~trap_flag;
+}
+#else
+static const char noted[] = "of each call the first store alone";
+
+static void step(void *context, int on)
+{
+    (void)context;
+    (void)on;
+}
+#endif
+
+/* A store: it is noted and let through. The processor stops behind it, if it can. */
 static void note_store(int number, siginfo_t *info, void *context)
 {
     uint8_t *at = info->si_addr;
@@ -116,7 +140,7 @@ static void note_store(int number, siginfo_t *info, void *context)
     trial.stores++;
     if (trial.outside == NOWHERE && !(byte >= 0 && byte < (ptrdiff_t)LP586X_RECORD_SIZE && may_store[byte]))
         trial.outside = byte;
-    ((ucontext_t *)context)->uc_mcontext.gregs[REG_EFL] |= TRAP_FLAG;
+    step(context, 1);
 }
 
 static void behind_store(int number, siginfo_t *info, void *context)
@@ -124,7 +148,7 @@ static void behind_store(int number, siginfo_t *info, void *context)
     (void)info;
     if (!only_read())
         signal(number, SIG_DFL);
-    ((ucontext_t *)context)->uc_mcontext.gregs[REG_EFL] &= ~TRAP_FLAG;
+    step(context, 0);
 }
 
 static void must_do(int done)
@@ -498,9 +522,9 @@ void group_stores(void)
     must_do(memory != MAP_FAILED);
     group("what an update stores");
     for_all(update_stores);
-    group_done("");
+    group_done(noted);
     group("what a lock stores");
     for_all(lock_stores);
-    group_done("");
+    group_done(noted);
     munmap(memory, 2 * page);
 }

@@ -134,13 +134,19 @@ static uint32_t random_below(uint32_t bound)
     return (state >> 8) % bound;
 }
 
-/* A cue of random lamps, a dimmed panel and now and then a loss of power; dots that the member has not are refused. */
+/* A cue of random lamps, a dimmed panel and now and then a loss of power; dots that the member has not are refused. Each number is drawn in a
+ * declaration of its own: C leaves the order of a call's arguments open. */
 static void random_cue(uint8_t *record)
 {
+    uint32_t value = random_below(256), address = 0x005 + random_below(4);
+
     lp586x_register(record, LP586X_RECORD_SIZE, 0x000, 0x01);
-    lp586x_register(record, LP586X_RECORD_SIZE, 0x005 + random_below(4), random_below(256));
-    for (uint32_t lamps = random_below(40); lamps > 0; lamps--)
-        lp586x_lamp(record, LP586X_RECORD_SIZE, random_below(11), random_below(18), random_below(65536));
+    lp586x_register(record, LP586X_RECORD_SIZE, address, value);
+    for (uint32_t lamps = random_below(40); lamps > 0; lamps--) {
+        uint32_t level = random_below(65536), sink = random_below(18), line = random_below(11);
+
+        lp586x_lamp(record, LP586X_RECORD_SIZE, line, sink, level);
+    }
     if (random_below(4) == 0)
         lp586x_power_lost(record, LP586X_RECORD_SIZE);
 }
