@@ -45,7 +45,7 @@ count-requires : tie.Need-count-requires
 count-requires c κs = command-within _ _ _ _ _ (omega arith) _ (c .before .before .before .before .clear-parts .ensures .0)
 
 same-length : tie.Need-same-length
-same-length c = c .before .before .before .before .before .clear-parts .kept .1 .1 .1 .0
+same-length c = search needs
 
 returns-2 : tie.Need-returns-2
 returns-2 c =
