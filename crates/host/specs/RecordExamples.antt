@@ -14,7 +14,7 @@ use Rattle.map.specs.Images.{okByte, resetImage}
 use Rattle.host.specs.declared.Record.{Record}
 use Rattle.dots.specs.Dots.{wideOf, topLevel, putLevel, putBits, putField}
 use Rattle.calls.specs.declared.Setting.{Setting}
-use Rattle.host.specs.Record.{headerOf, recordOf, isTrim, isLocked, free, locked, lockKeeps, sameTrims, marksOk, soundOf, whenSound, opened, openHost, openOf, soundAnswer, powerLostOf, isOn, isLockable, lockAnswer, lockOf}
+use Rattle.host.specs.Record.{headerOf, recordOf, isTrim, isLocked, free, locked, lockKeeps, mayWrite, sameTrims, marksOk, soundOf, whenSound, opened, openHost, openOf, soundAnswer, powerLostOf, isOn, isLockable, lockAnswer, lockOf}
 use Rattle.host.specs.Record.{registerAnswer, whenDot, lampAnswer, fieldAnswer, argumentsAnswer, settingAnswer, putSetting, changedTo, settingOf}
 use Rattle.host.specs.Record.{sceneWord, sceneDot, sceneLevel, sceneSized, sceneHasDot, sceneFits, sceneAnswer, putScene}
 use Rattle.host.specs.Record.{registerOf, lampOf, groupOf, switchOf, sceneOf}
@@ -120,6 +120,12 @@ marks-tested = refl
 marks-free : map (λ (marks : ℕ). marksOk (recordOf (headerOf 0 0 0 marks) (other 3) (other 4))) (free ∷ locked ∷ 2 ∷ 255 ∷ []) ≡ true ∷ false ∷ false ∷ false ∷ []
 unfolding other marksOk isLocked sameTrims
 marks-free = refl
+
+-- "The test of whether an address may be written now looks at the lock": 002h to 005h of a locked record, and of a free one
+may-be-written : (map (mayWrite (headerOf 0 0 0 locked)) (0x002 ∷ 0x003 ∷ 0x004 ∷ 0x005 ∷ []) ≡ true ∷ false ∷ false ∷ true ∷ [])
+    × (map (mayWrite (headerOf 0 0 0 free)) (0x002 ∷ 0x003 ∷ 0x004 ∷ 0x005 ∷ []) ≡ true ∷ true ∷ true ∷ true ∷ [])
+unfolding mayWrite lockKeeps isTrim isLocked writableOf reservedOf reservedAs kindOf firstMasks firstMask
+may-be-written = (refl, refl)
 
 -- "18, locking a locked record, or one whose chip image is off or differs from the settings at 003h or 004h."
 lockable : (isLockable (recordOf (headerOf 0 0 0 free) (other 1) (other 2)) ≡ true) × (isLockable (recordOf (headerOf 0 0 0 locked) (other 1) (other 2)) ≡ false)
