@@ -1,5 +1,6 @@
 // The calls that a panel makes on its record, as values: the one table of them. The record, a scene's bytes and a list's buffer are
 // lent beside a call.
+#![tactic(auto)]
 
 // A setting changes the settings of a record and nothing else, and answers a number alone.
 #[derive(Drop)]

@@ -5,6 +5,8 @@
 // formulas of a dot's places, the reserved bits and the reset values follow from the kind and from the member's tables.
 //
 // Every function here takes any number that its types allow, a member above 4 and an address above 38Bh included.
+#![tactic(auto)]
+
 mod dots;
 mod kinds;
 mod members;

@@ -2,6 +2,8 @@
 //
 // Each function puts a text at a place of a buffer and answers the place behind it. What has no room is dropped: behind the buffer's
 // end nothing is put, and the place stays.
+#![tactic(auto)]
+
 ghost use Rattle.std.specs.Prelude.{◌≡◌, [], ◌∷◌};
 ghost use Rattle.text.specs.Text.{Puts, digit, byte_text, address_text, spaced_text, spaced_bytes_text, bytes_text, decimal_text, each_text};
 
