@@ -12,7 +12,7 @@ pub use rounding::round;
 use session::Session;
 
 // The sessions of the four places, and the place of the current one.
-#[derive(Drop)]
+#[derive(Clone, Copy)]
 pub struct Booth {
     pub first: Session,
     pub second: Session,
@@ -22,7 +22,7 @@ pub struct Booth {
 }
 
 // The numbers of a round's answer, and the panels after it.
-#[derive(Drop)]
+#[derive(Clone, Copy)]
 pub struct BoothRounded {
     pub numbers: Numbers,
     pub booth: Booth,

@@ -5,7 +5,7 @@ ghost use Rattle.burst.specs.Burst.{n_of, bytes_before, place_of};
 use crate::sizes;
 use crate::sizes::Sizes;
 
-#[derive(Drop)]
+#[derive(Clone, Copy)]
 pub enum Place {
     // the first byte of the transaction, and how many it has
     At { offset: usize, length: usize },

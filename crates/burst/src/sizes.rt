@@ -3,7 +3,7 @@ ghost use Rattle.std.specs.Prelude.{◌≡◌, ◌<◌, length};
 ghost use Rattle.burst.specs.Burst.{byte_at, size16, put_size, lengths_from, lengths_good, sizes_of};
 
 // What the sizes of a list say: n transactions of t bytes together, or sizes that do not add up.
-#[derive(Drop)]
+#[derive(Clone, Copy)]
 pub enum Sizes {
     Good { n: usize, t: usize },
     Bad,

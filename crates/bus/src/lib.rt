@@ -16,7 +16,7 @@ use rounds::Present;
 use update::ListAnswer;
 
 // The records and the chips of the four places.
-#[derive(Drop)]
+#[derive(Clone, Copy)]
 pub struct Panels {
     pub first: World,
     pub second: World,
@@ -25,21 +25,21 @@ pub struct Panels {
 }
 
 // What a round answers, and the panels after it.
-#[derive(Drop)]
+#[derive(Clone, Copy)]
 pub struct BusRounded {
     pub answer: ListAnswer,
     pub panels: Panels,
 }
 
 // A call at one place, where 3 and every number above it is the last one, or a round.
-#[derive(Drop)]
+#[derive(Clone, Copy)]
 pub enum BusRequest {
     Plain { place: usize, request: Request },
     Round { present: Present, limit: usize },
 }
 
 // What a bus call answers, and the panels after it.
-#[derive(Drop)]
+#[derive(Clone, Copy)]
 pub struct BusStepped {
     pub answer: CallAnswer,
     pub panels: Panels,

@@ -3,7 +3,7 @@
 #![tactic(auto)]
 
 // A setting changes the settings of a record and nothing else, and answers a number alone.
-#[derive(Drop)]
+#[derive(Clone, Copy)]
 pub enum Setting {
     // one register, a whole byte
     Register {
@@ -33,7 +33,7 @@ pub enum Setting {
 }
 
 // A call of the claim about whole lists. Reset and Update write a list into the buffer that is lent.
-#[derive(Drop)]
+#[derive(Clone, Copy)]
 pub enum Request {
     Set(Setting),
     Reset,

@@ -2,7 +2,7 @@
 ghost use Rattle.std.specs.Prelude.{◌≡◌};
 ghost use Rattle.chip.specs.Chip.{selected, decode_of};
 
-#[derive(Drop)]
+#[derive(Clone, Copy)]
 pub enum Transaction {
     // data for this chip, from an address on
     Write(usize),

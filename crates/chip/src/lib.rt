@@ -17,7 +17,7 @@ ghost use Rattle.chip.specs.Chip.{chip_of, power_lost_of, at_reset_of, feed_answ
 use burst::Sizes;
 use map::{Answer, Refusal};
 
-#[derive(Drop)]
+#[derive(Clone, Copy)]
 pub struct Chip {
     pub member: u8,
     pub bus: u8,
@@ -26,14 +26,14 @@ pub struct Chip {
 }
 
 // What Feed answers, and the chip that it gives back.
-#[derive(Drop)]
+#[derive(Clone, Copy)]
 pub struct Fed {
     pub answer: Answer,
     pub chip: Chip,
 }
 
 // What Open answers, and a chip at its reset values.
-#[derive(Drop)]
+#[derive(Clone, Copy)]
 pub struct Opened {
     pub answer: Answer,
     pub chip: Chip,

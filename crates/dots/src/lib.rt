@@ -3,6 +3,8 @@
 // An image is 908 bytes, one for each register, and any other number is taken too: a byte beyond the end reads as 0 and is not stored. A
 // level stands at 200h, in 8 or 16 bits by the data mode in 001h of the same image. A group, a switch or any other field of a dot
 // stands in the bits of one byte, which `map` gives, and the other bits of that byte stay.
+#![tactic(auto)]
+
 ghost use Rattle.std.specs.Prelude.{◌≡◌, cond, ◌+◌, ◌-◌, ◌/◌, ◌%◌, ◌^◌, ◌<◌, ◌≤◌, get_or, set};
 ghost use Rattle.map.specs.Map.{is_dot, width_of, data_mode, is_wide};
 ghost use Rattle.dots.specs.Dots.{wide_of, top_level, level_of, put_level, put_bits, field_of, put_field};

@@ -3,7 +3,7 @@ use crate::tally::Tally;
 use crate::{compare, records, report};
 
 // At the figure the chip looks for faults, below it it does not.
-#[derive(Drop)]
+#[derive(Clone, Copy)]
 struct Light {
     mode: u8,
     level: usize,

@@ -1,6 +1,6 @@
 // What is counted. A count that is at u64::MAX stays there.
 
-#[derive(Drop)]
+#[derive(Clone, Copy)]
 pub struct Tally {
     pub examples: u64,
     pub differing: u64,

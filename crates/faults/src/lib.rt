@@ -19,7 +19,7 @@ ghost use Rattle.faults.specs.Faults.{answer_numbers, faults_answer, faults_resu
 use host::{Header, Record};
 use map::Refusal;
 
-#[derive(Drop)]
+#[derive(Clone, Copy)]
 pub enum Answer {
     // whether 064h agrees with the open bits and with the short bits of the member's dots
     Read {

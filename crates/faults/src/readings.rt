@@ -13,7 +13,7 @@ const OPENS: usize = 0x065 - 0x064;
 const SHORTS: usize = 0x086 - 0x064;
 
 // How many dots of the member are open, and how many are short.
-#[derive(Drop)]
+#[derive(Clone, Copy)]
 pub(crate) struct Found {
     pub(crate) opens: u8,
     pub(crate) shorts: u8,

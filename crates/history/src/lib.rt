@@ -18,7 +18,7 @@ use map::{Numbers, Refusal};
 use update::ListAnswer;
 
 // A host's record and its chip.
-#[derive(Drop)]
+#[derive(Clone, Copy)]
 pub struct World {
     pub host: Record,
     pub chip: Chip,
@@ -26,7 +26,7 @@ pub struct World {
 
 // What a call answers: a setting, Power lost or Lock a number and the values that come with it, the others a list; an update also how many bytes
 // of the chip image it stored.
-#[derive(Drop)]
+#[derive(Clone, Copy)]
 pub enum CallAnswer {
     Setting(Numbers),
     List(ListAnswer),
@@ -34,14 +34,14 @@ pub enum CallAnswer {
 }
 
 // The answer, and the world after the call.
-#[derive(Drop)]
+#[derive(Clone, Copy)]
 pub struct Stepped {
     pub answer: CallAnswer,
     pub world: World,
 }
 
 // What was asked for since a member was opened: a byte for each register.
-#[derive(Drop)]
+#[derive(Clone, Copy)]
 pub struct Ledger {
     pub member: u8,
     pub bytes: [u8; 908],

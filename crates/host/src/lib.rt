@@ -22,7 +22,7 @@ use map::{Answer, Numbers};
 pub use store::{put_lost, put_setting};
 
 // What a record has beside its images.
-#[derive(Drop)]
+#[derive(Clone, Copy)]
 pub struct Header {
     pub member: u8,
     pub bus: u8,
@@ -30,7 +30,7 @@ pub struct Header {
     pub marks: u8,
 }
 
-#[derive(Drop)]
+#[derive(Clone, Copy)]
 pub struct Record {
     pub header: Header,
     pub settings: [u8; 908],
@@ -38,7 +38,7 @@ pub struct Record {
 }
 
 // What a call answers, the number of that answer with the values that it has, and the host's record that it gives back.
-#[derive(Drop)]
+#[derive(Clone, Copy)]
 pub struct Changed {
     pub answer: Answer,
     pub numbers: Numbers,

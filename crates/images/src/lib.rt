@@ -4,6 +4,8 @@
 // stand at 064h to 0A6h, the currents of n lines from 100h on and the levels of n lines from 200h on, and every byte between and
 // behind is 0. Currents and levels may be any bytes, but for the LP5867: its absent sinks are tested by tables too. No loop stops early, so
 // that many bytes are taken at once.
+#![tactic(auto)]
+
 mod tables;
 
 ghost use Rattle.std.specs.Prelude.{◌≡◌, cond, ℕ, ◌+◌, ◌*◌, ◌-◌, ◌<◌, ◌≤◌, eqb, length};

@@ -3,6 +3,8 @@
 // transaction on a line of its own and takes lists of up to 65,536 bytes; `put_list` has ` / ` before each, all on one line.
 //
 // Bus 0 is I2C, any other SPI. What has no room in the buffer is dropped; 196,608 bytes have room for what `show` has of any list.
+#![tactic(auto)]
+
 ghost use Rattle.std.specs.Prelude.{◌≡◌, ◌++◌, ◌+◌, ◌*◌, ◌<◌, ◌≤◌, length, take, drop};
 ghost use Rattle.burst.specs.Burst.{lengths_from, cut_from, head_address};
 ghost use Rattle.burst.specs.BurstLaws.{Rest};

@@ -5,21 +5,21 @@ ghost use Rattle.map.specs.Map.{has_column, dot_in, number_in, is_dot, number_of
 use crate::members;
 
 // A dot's number, where the member has the dot.
-#[derive(Drop)]
+#[derive(Clone, Copy)]
 pub enum DotNumber {
     Is(usize),
     Absent,
 }
 
 // The dot that a number names, where the member has it.
-#[derive(Drop)]
+#[derive(Clone, Copy)]
 pub enum Dot {
     At { line: usize, sink: usize },
     Absent,
 }
 
 // What a dot has in the registers.
-#[derive(Drop)]
+#[derive(Clone, Copy)]
 pub enum Field {
     Group,
     Switch,
@@ -32,7 +32,7 @@ pub enum Field {
 }
 
 // An address and the lowest bit of a field there.
-#[derive(Drop)]
+#[derive(Clone, Copy)]
 pub enum Place {
     At { address: usize, shift: usize },
     Absent,

@@ -6,7 +6,7 @@ ghost use Rattle.std.specs.Prelude.{◌≡◌, ◌<◌, ◌≤◌};
 ghost use Rattle.map.specs.Map.{kind_of};
 ghost use Rattle.map.specs.KindTable.{kind_table, kind_in};
 
-#[derive(Drop)]
+#[derive(Clone, Copy)]
 pub enum Kind {
     // 000h to 00Bh
     Config,

@@ -2,7 +2,7 @@
 ghost use Rattle.std.specs.Prelude.{[], ◌∷◌, ◌≡◌};
 ghost use Rattle.map.specs.Refusals.{refusal_number, answer_number, numbers_of, open_answer};
 
-#[derive(Drop)]
+#[derive(Clone, Copy)]
 pub enum Refusal {
     // a member above 4
     Member,
@@ -68,7 +68,7 @@ pub fn refusal_number(refusal: Refusal) -> u8
 }
 
 // What a call answers that hands back no value of its own.
-#[derive(Drop)]
+#[derive(Clone, Copy)]
 pub enum Answer {
     Accepted,
     Refused(Refusal),
@@ -86,7 +86,7 @@ pub fn answer_number(answer: Answer) -> u8
 
 // The number of an answer, 0 or a refusal's, and the values that come with it: the first `count` of the five numbers. (Fields, since an
 // enum holds no struct that has an array.)
-#[derive(Drop)]
+#[derive(Clone, Copy)]
 pub struct Numbers {
     pub count: usize,
     pub number: usize,

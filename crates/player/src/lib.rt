@@ -22,7 +22,7 @@ pub(crate) const LIST: usize = 4684;
 
 // The four panels, whether lines are echoed, the number of the last line, and the last list that a call wrote: its bytes, how many they are, and
 // the bus of the record that wrote it.
-#[derive(Drop)]
+#[derive(Clone, Copy)]
 pub struct Player {
     pub booth: Booth,
     pub echo: bool,
@@ -33,7 +33,7 @@ pub struct Player {
 }
 
 // The player after a line, and the place of the text behind what the line prints.
-#[derive(Drop)]
+#[derive(Clone, Copy)]
 pub struct Played {
     pub player: Player,
     pub at: usize,

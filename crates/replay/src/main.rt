@@ -17,7 +17,7 @@ const LINE: usize = script::LONGEST + 2;
 const TEXT: usize = 65536;
 
 // What is kept from line to line.
-#[derive(Drop)]
+#[derive(Clone, Copy)]
 struct Reading {
     player: Player,
     // of the line so far

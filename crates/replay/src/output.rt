@@ -3,7 +3,7 @@ ghost use Rattle.std.specs.Prelude.{◌≡◌, ◌≤◌, length};
 ghost use Rattle.replay.specs.Output.{waiting};
 
 // How much text waits, and whether a write has failed: then nothing more is written.
-#[derive(Drop)]
+#[derive(Clone, Copy)]
 pub(crate) struct Output {
     pub(crate) at: usize,
     pub(crate) failed: bool,

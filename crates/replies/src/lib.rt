@@ -1,5 +1,7 @@
 // Replies to the lines of a script, and their text. docs/REPLAY.md has them in its table's last column: the numbers of an answer, then a
 // buffer; bytes alone; or a word.
+#![tactic(auto)]
+
 ghost use Rattle.std.specs.Prelude.{◌≡◌, cond, [], ◌++◌};
 ghost use Rattle.map.specs.Refusals.{numbers_in};
 ghost use Rattle.replies.specs.Replies.{value_text, numbers_text, lent_text, differs_word, reply_text, reply_line, echo_line};
@@ -9,7 +11,7 @@ use map::Numbers;
 use text::{put, put_address, put_bytes, put_decimal, put_text};
 
 // What the line of output says. BUFFER is all bytes of the buffer that was lent.
-#[derive(Drop)]
+#[derive(Clone, Copy)]
 pub enum Reply {
     // `?`
     Bad,

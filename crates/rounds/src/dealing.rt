@@ -15,7 +15,7 @@ use writes::Count;
 const PLACES: usize = 4;
 
 // The bus bytes of the parts of the four places within their shares.
-#[derive(Drop)]
+#[derive(Clone, Copy)]
 struct Firsts {
     first: usize,
     second: usize,
@@ -24,7 +24,7 @@ struct Firsts {
 }
 
 // The number of all writes, and the bus bytes of the parts of the four places.
-#[derive(Drop)]
+#[derive(Clone, Copy)]
 pub(crate) struct Dealt {
     pub(crate) writes: usize,
     pub(crate) first: usize,
@@ -34,7 +34,7 @@ pub(crate) struct Dealt {
 }
 
 // A part with more room than its first one, and what it leaves of the bytes that go round.
-#[derive(Drop)]
+#[derive(Clone, Copy)]
 struct Given {
     size: Count,
     left: usize,

@@ -14,7 +14,7 @@ use host::{Header, Record};
 use update::ListAnswer;
 
 // Which of the four places have a panel that takes part.
-#[derive(Drop)]
+#[derive(Clone, Copy)]
 pub struct Present {
     pub first: bool,
     pub second: bool,
@@ -23,7 +23,7 @@ pub struct Present {
 }
 
 // The headers of the records of the four places.
-#[derive(Drop)]
+#[derive(Clone, Copy)]
 pub struct Headers {
     pub first: Header,
     pub second: Header,
@@ -32,7 +32,7 @@ pub struct Headers {
 }
 
 // The records of the four places.
-#[derive(Drop)]
+#[derive(Clone, Copy)]
 pub struct Records {
     pub first: Record,
     pub second: Record,
@@ -41,7 +41,7 @@ pub struct Records {
 }
 
 // The answer of a round, and the records that it gives back.
-#[derive(Drop)]
+#[derive(Clone, Copy)]
 pub struct Rounded {
     pub answer: ListAnswer,
     pub records: Records,

@@ -13,7 +13,7 @@ use map::{Answer, Refusal};
 use update::ListAnswer;
 
 // The answer, and what each place gets where it is that of a list.
-#[derive(Drop)]
+#[derive(Clone, Copy)]
 pub(crate) struct Planned {
     pub(crate) answer: ListAnswer,
     pub(crate) dealt: Dealt,

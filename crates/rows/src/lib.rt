@@ -29,7 +29,7 @@ pub const WRITE: u8 = 2;
 
 pub const READ_WRITE: u8 = 3;
 
-#[derive(Drop)]
+#[derive(Clone, Copy)]
 pub enum Holds {
     Plain,
     Group,
@@ -41,7 +41,7 @@ pub enum Holds {
     Unknown,
 }
 
-#[derive(Drop)]
+#[derive(Clone, Copy)]
 pub struct Row {
     pub member: usize,
     pub address: usize,
@@ -51,14 +51,14 @@ pub struct Row {
     pub holds: Holds,
 }
 
-#[derive(Drop)]
+#[derive(Clone, Copy)]
 pub enum Parsed {
     Row(Row),
     Broken,
 }
 
 // What a word after the sixth names.
-#[derive(Drop)]
+#[derive(Clone, Copy)]
 pub enum Named {
     // a line and a sink
     Dot(usize, usize),

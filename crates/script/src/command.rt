@@ -2,7 +2,7 @@
 use calls::Request;
 
 // The bytes that are lent to a call.
-#[derive(Drop)]
+#[derive(Clone, Copy)]
 pub enum Lent {
     Nothing,
     // the byte string that is this word of the line
@@ -12,7 +12,7 @@ pub enum Lent {
 }
 
 // 908 bytes of the script's record or chip.
-#[derive(Drop)]
+#[derive(Clone, Copy)]
 pub enum Part {
     Settings,
     Image,
@@ -20,7 +20,7 @@ pub enum Part {
 }
 
 // What a record and a chip have beside their bytes.
-#[derive(Drop)]
+#[derive(Clone, Copy)]
 pub enum Entry {
     Member,
     Bus,
@@ -30,7 +30,7 @@ pub enum Entry {
 }
 
 // A line that makes no call and changes no record and no chip.
-#[derive(Drop)]
+#[derive(Clone, Copy)]
 pub enum Aside {
     // a comment, or an empty line
     Silent,
@@ -45,7 +45,7 @@ pub enum Aside {
 }
 
 // A call of a panel, with the bytes that are lent to it, or a line of the script's own.
-#[derive(Drop)]
+#[derive(Clone, Copy)]
 pub enum Command {
     Bad,
     // member, bus and pins
@@ -69,7 +69,7 @@ pub enum Command {
 }
 
 // What a line of a script is: a command and an aside are about the current panel. A line that is none of these is a bad command.
-#[derive(Drop)]
+#[derive(Clone, Copy)]
 pub enum Line {
     Run(Command),
     Aside(Aside),

@@ -2,6 +2,8 @@
 //
 // A line is bytes without its LF. It is judged as a whole before anything is called: a line that is no call is the command Bad. The byte
 // strings of a line stay in it; `word` finds them and `decode` puts their bytes into a buffer.
+#![tactic(auto)]
+
 mod bytes;
 mod command;
 mod lines;

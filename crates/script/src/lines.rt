@@ -16,7 +16,7 @@ pub const LONGEST: usize = 8192;
 
 // A kind of words that are numbers: the letter that it has in LINES, the base, the most digits, and the largest number. LONGEST is as many
 // digits as a line has.
-#[derive(Drop)]
+#[derive(Clone, Copy)]
 struct NumberKind {
     letter: u8,
     base: usize,
@@ -298,7 +298,7 @@ fn argument(kind: u8, word: &[u8]) -> Number
 }
 
 // What the words behind the first say; 0 where a row has no such word.
-#[derive(Drop)]
+#[derive(Clone, Copy)]
 enum Three {
     Values(usize, usize, usize),
     Bad,

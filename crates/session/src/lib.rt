@@ -26,7 +26,7 @@ pub const ROOM: usize = 8192;
 
 // The record and the chip that the script plays on, and the ledger of the accepted settings. The ledger says nothing once a
 // byte was put behind the calls' back.
-#[derive(Drop)]
+#[derive(Clone, Copy)]
 pub struct Session {
     pub world: World,
     pub ledger: Ledger,

@@ -8,7 +8,7 @@ use replies::Reply;
 use script::Lent;
 
 // The reply, how many bytes of the buffer it shows, and the session after the line.
-#[derive(Drop)]
+#[derive(Clone, Copy)]
 pub struct Outcome {
     pub reply: Reply,
     pub shown: usize,

@@ -23,7 +23,7 @@ pub use lists::{store_sent, update_parts};
 use map::{Numbers, Refusal};
 
 // What a call answers that writes a list.
-#[derive(Drop)]
+#[derive(Clone, Copy)]
 pub enum ListAnswer {
     // n transactions of t bytes together
     Listed { n: usize, t: usize },
@@ -33,7 +33,7 @@ pub enum ListAnswer {
 }
 
 // The answer of Reset or Clear, and the host's record that the call gives back.
-#[derive(Drop)]
+#[derive(Clone, Copy)]
 pub struct Sent {
     pub answer: ListAnswer,
     pub host: Record,
@@ -41,7 +41,7 @@ pub struct Sent {
 
 // The answer of Update, how many bytes of the chip image it stored (none where no list was written), and the host's record that it gives
 // back.
-#[derive(Drop)]
+#[derive(Clone, Copy)]
 pub struct Updated {
     pub answer: ListAnswer,
     pub stored: usize,

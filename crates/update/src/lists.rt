@@ -27,7 +27,7 @@ fn enable_count<'a>(settings: &'a [u8], image: &'a [u8]) -> usize
 }
 
 // What an update sends: n transactions of t bytes together, `first` of them to 000h.
-#[derive(Drop)]
+#[derive(Clone, Copy)]
 struct Size {
     first: usize,
     n: usize,

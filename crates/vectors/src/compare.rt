@@ -6,7 +6,7 @@ use rows::{Holds, Named, Row};
 pub const ADDRESSES: usize = 908;
 
 // That there is nothing to compare, that row and map agree, or in what they differ.
-#[derive(Drop)]
+#[derive(Clone, Copy)]
 pub enum Finding {
     Nothing,
     Agrees,

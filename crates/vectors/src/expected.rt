@@ -3,7 +3,7 @@ use crate::compare::Finding;
 use crate::{addresses, report};
 use rows::Row;
 
-#[derive(Drop)]
+#[derive(Clone, Copy)]
 struct Expected {
     member: usize,
     address: usize,

@@ -14,7 +14,7 @@ use tally::{Count, Tally};
 // No row is longer: a line that is does not parse.
 const ROOM: usize = 80;
 
-#[derive(Drop)]
+#[derive(Clone, Copy)]
 struct Reader {
     line: [u8; ROOM],
     // ROOM + 1 where the line is longer than its room

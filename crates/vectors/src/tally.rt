@@ -1,7 +1,7 @@
 // What is counted. A count that is at u64::MAX stays there.
 
 // The counts of one member, of the examples, or of all.
-#[derive(Drop)]
+#[derive(Clone, Copy)]
 pub struct Count {
     pub rows: u64,
     // the rows whose default the text has lost
@@ -16,7 +16,7 @@ pub struct Count {
     pub disagreements: u64,
 }
 
-#[derive(Drop)]
+#[derive(Clone, Copy)]
 pub struct Tally {
     pub members: [Count; 5],
     pub lines: u64,

@@ -10,7 +10,7 @@ ghost use Rattle.writes.specs.Found.{differs_at, SameTo, FirstDiffering, DifferT
 use host::Header;
 
 // A header with the lines and columns of its member, read once a call.
-#[derive(Drop)]
+#[derive(Clone, Copy)]
 pub struct Matrix {
     pub header: Header,
     pub lines: usize,
@@ -174,7 +174,7 @@ fn write_end<'a>(
 }
 
 // The addresses from `start` up to, not including, `end`.
-#[derive(Drop)]
+#[derive(Clone, Copy)]
 pub struct Write {
     pub start: usize,
     pub end: usize,
@@ -229,7 +229,7 @@ fn past_enable(from: usize) -> usize
 }
 
 // So many writes, and so many bus bytes together.
-#[derive(Drop)]
+#[derive(Clone, Copy)]
 pub struct Count {
     pub writes: usize,
     pub bytes: usize,
