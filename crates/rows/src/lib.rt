@@ -12,7 +12,9 @@
 //     pwm                           the dot whose 8 bits these are, whose low byte of 16, whose high byte of 16
 //
 // A dot is LINE.SINK, each a decimal of one or two digits. For a bit, and after pwm, `-` stands for no dot.
-ghost use Rattle.std.specs.Prelude.{◌≤◌, length};
+#![tactic(auto)]
+
+ghost use Rattle.std.specs.Prelude.{◌≡◌, ◌≢◌, ℕ, ◌<◌, ◌≤◌, length, slice_index};
 
 // What a text that is no number is read as: more than any number of a row.
 const UNKNOWN: usize = 0x1000;
@@ -79,13 +81,29 @@ pub fn names(holds: Holds) -> usize
     }
 }
 
+// The first place of a byte, from a place on; the text's end where there is none.
+fn find(text: &[u8], from: usize, byte: u8) -> usize
+    requires { from ≤ length text.now }
+    ensures low { from ≤ result }
+    ensures high { result ≤ length text.now }
+    ensures found { result < length text.now → slice_index text.now result ≡ byte }
+    ensures first { (k : ℕ) → from ≤ k → k < result → slice_index text.now k ≢ byte }
+{
+    for at in from..text.len() {
+        if text[at] == byte {
+            return at;
+        }
+    }
+    text.len()
+}
+
 // Where word n starts, counted from 0; the line's end where there is no such word.
 fn start(text: &[u8], n: usize) -> usize
     ensures { result ≤ length text.now }
 {
     let mut at = 0;
     for i in 0..n {
-        let space = bytes::scan::find(text, at, text.len(), b' ');
+        let space = find(text, at, b' ');
         if text.len() <= space {
             return space;
         }
@@ -97,14 +115,14 @@ fn start(text: &[u8], n: usize) -> usize
 // Word n; empty where there is none.
 fn word(text: &[u8], n: usize) -> &[u8] {
     let from = start(text, n);
-    let to = bytes::scan::find(text, from, text.len(), b' ');
+    let to = find(text, from, b' ');
     &text[from..to]
 }
 
 // Whether the line ends where word n does.
 fn is_last(text: &[u8], n: usize) -> bool {
     let from = start(text, n);
-    bytes::scan::find(text, from, text.len(), b' ') == text.len()
+    find(text, from, b' ') == text.len()
 }
 
 // The value of a digit; 16 where the byte is none.
@@ -196,7 +214,7 @@ fn read_holds(text: &[u8]) -> Holds {
 }
 
 fn read_dot(text: &[u8]) -> Named {
-    let point = bytes::scan::find(text, 0, text.len(), b'.');
+    let point = find(text, 0, b'.');
     if text.len() <= point {
         return Named::Unknown;
     }
