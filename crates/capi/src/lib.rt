@@ -302,7 +302,7 @@ pub extern "C" fn lp586x_faults(
     shorts: &mut u32,
 ) -> u32
     ensures value { result ≡ (faults_call bytes.now given.now res.old opens.old shorts.old).answer }
-    ensures res_after { res.new ≡ (faults_call bytes.now given.now res.old opens.old shorts.old).result }
+    ensures result_after { res.new ≡ (faults_call bytes.now given.now res.old opens.old shorts.old).result }
     ensures opens_after { opens.new ≡ (faults_call bytes.now given.now res.old opens.old shorts.old).opens }
     ensures shorts_after { shorts.new ≡ (faults_call bytes.now given.now res.old opens.old shorts.old).shorts }
 {

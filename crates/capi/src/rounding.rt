@@ -151,8 +151,8 @@ fn put_back(
     m2: &[u8; 908],
     m3: &[u8; 908],
 )
-    requires bytes_len { length bytes.old ≡ place_at 4 }
-    requires m0_len { (length m0.now ≡ 908) × ((length m1.now ≡ 908) × ((length m2.now ≡ 908) × (length m3.now ≡ 908))) }
+    requires bytes_sized { length bytes.old ≡ place_at 4 }
+    requires images_sized { (length m0.now ≡ 908) × ((length m1.now ≡ 908) × ((length m2.now ≡ 908) × (length m3.now ≡ 908))) }
     ensures { bytes.new ≡ kept_all (is_listed answer) present bytes.old m0.now m1.now m2.now m3.now }
 {
     keep(answer, present.first, bytes, IMAGE, m0);

@@ -5,6 +5,8 @@
 // and the data bytes of a write go to rising addresses. In standby only 000h and 0A9h are heard. Reserved bits, read-only bytes,
 // command bytes and holes keep their values, but for what the three commands do: 0A7h and 0A8h clear the open and the short bits,
 // 0A9h resets.
+#![tactic(auto)]
+
 mod chips;
 mod data;
 mod decode;

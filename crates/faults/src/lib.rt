@@ -71,7 +71,7 @@ pub fn faults_parts<'a>(
     res: &mut [u8],
 ) -> Answer
     ensures value { result ≡ faults_answer (record_of header settings.now image.now) bytes.now res.old }
-    ensures res_after { res.new ≡
+    ensures result_after { res.new ≡
         faults_result (record_of header settings.now image.now) bytes.now res.old }
 {
     let checked = answers::checked(header, settings, image, bytes.len(), res.len());
@@ -88,7 +88,7 @@ pub fn faults_parts<'a>(
 // The readings of 198 dots, by their numbers, go to the front of the result; a refusal leaves every byte of it as it is.
 pub fn faults(r: Record, bytes: &[u8], res: &mut [u8]) -> Answer
     ensures value { result ≡ faults_answer r bytes.now res.old }
-    ensures res_after { res.new ≡ faults_result r bytes.now res.old }
+    ensures result_after { res.new ≡ faults_result r bytes.now res.old }
 {
     faults_parts(r.header, &r.settings, &r.image, bytes, res)
 }

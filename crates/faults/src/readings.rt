@@ -78,7 +78,7 @@ fn read_line(
 // Stores the reading by its bits of each dot at its number.
 pub(crate) fn read_all(member: usize, bytes: &[u8], res: &mut [u8]) -> Found
     requires { (length bytes.now ≡ 67) × (198 ≤ length res.old) }
-    ensures res_after { res.new ≡ filled (bits_reading member bytes.now) 0 198 res.old }
+    ensures result_after { res.new ≡ filled (bits_reading member bytes.now) 0 198 res.old }
     ensures opens_value { (ltb 0 result.opens ≡ some_faulty Open member bytes.now) × (ltb 0 result.shorts ≡ some_faulty Short member bytes.now) }
 {
     let lines = map::lines(member);

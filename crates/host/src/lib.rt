@@ -7,6 +7,8 @@
 //
 // Each call by value is a few lines over functions on the header and the lent images (`setting_answer`, `put_setting`, `sound_answer`,
 // `put_lost`, `lock_answer`), which a caller uses that keeps its record elsewhere. They take images of any length: another than 908 is unsound.
+#![tactic(auto)]
+
 mod answers;
 mod locks;
 mod scenes;

@@ -70,9 +70,9 @@ pub fn put_setting(
     setting: Setting,
     lent: &[u8],
 ) -> Numbers
-    ensures by_index { (image : List ℕ) → answer ≡ setting_answer (record_of header settings.old image) setting lent.now →
+    ensures settings_after { (image : List ℕ) → answer ≡ setting_answer (record_of header settings.old image) setting lent.now →
         settings.new ≡ cond (accepted answer) (put_setting settings.old setting lent.now) settings.old }
-    ensures by_index_2 { (image : List ℕ) → answer ≡ setting_answer (record_of header settings.old image) setting lent.now →
+    ensures numbers { (image : List ℕ) → answer ≡ setting_answer (record_of header settings.old image) setting lent.now →
         result ≡ numbers_of (setting_numbers (record_of header settings.old image) setting lent.now) }
 {
     let Answer::Accepted = answer else {
@@ -113,9 +113,9 @@ pub(crate) fn put_own(
     setting: Setting,
     lent: &[u8],
 ) -> Numbers
-    ensures by_index { (image : List ℕ) → answer ≡ setting_answer (record_of header settings.old image) setting lent.now →
+    ensures settings_after { (image : List ℕ) → answer ≡ setting_answer (record_of header settings.old image) setting lent.now →
         settings.new ≡ cond (accepted answer) (put_setting settings.old setting lent.now) settings.old }
-    ensures by_index_2 { (image : List ℕ) → answer ≡ setting_answer (record_of header settings.old image) setting lent.now →
+    ensures numbers { (image : List ℕ) → answer ≡ setting_answer (record_of header settings.old image) setting lent.now →
         result ≡ numbers_of (setting_numbers (record_of header settings.old image) setting lent.now) }
 {
     put_setting(answer, header, settings, setting, lent)

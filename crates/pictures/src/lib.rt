@@ -3,6 +3,8 @@
 // The lamps and the faults of a panel are pictures: a line for each scan line of the member, a character for each of the sinks 0 to 17. The
 // differences of a chip and its ledger are a list: a line for each register. LF stands between lines and none behind the last. Each
 // function puts its text at a place of a buffer and answers the place behind it; what has no room is dropped.
+#![tactic(auto)]
+
 mod differences;
 mod faults;
 mod lamps;

@@ -76,7 +76,7 @@ fn counting(mut player: Player) -> Player
 fn play_line(player: Player, line: &[u8], text: &mut [u8], at: usize) -> Played
     ensures player_value { result.player ≡ after_line player line.now }
     ensures puts { Puts text.old at (line_text player line.now) text.new result.at }
-    ensures line_len_bound { length (line_text player line.now) ≤ longest_text }
+    ensures line_fits { length (line_text player line.now) ≤ longest_text }
 {
     match script::read(line) {
         Line::Run(command) => running::run(player, command, line, text, at),
@@ -90,7 +90,7 @@ fn play_line(player: Player, line: &[u8], text: &mut [u8], at: usize) -> Played
 pub fn play(player: Player, line: &[u8], text: &mut [u8], at: usize) -> Played
     ensures player_value { result.player ≡ player_after player line.now }
     ensures puts { Puts text.old at (printed player line.now) text.new result.at }
-    ensures line_len_bound { length (printed player line.now) ≤ longest_line }
+    ensures line_fits { length (printed player line.now) ≤ longest_line }
 {
     let line = script::trimmed(line);
     let player = counting(player);

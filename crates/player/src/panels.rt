@@ -48,7 +48,7 @@ pub(crate) fn round(
     requires { room ≤ 8192 }
     ensures player_value { result.player ≡ after_round player marks limit room }
     ensures puts { Puts text.old at (round_line player marks limit room) text.new result.at }
-    ensures room_len_bound { length (round_line player marks limit room) ≤ longest_text }
+    ensures line_fits { length (round_line player marks limit room) ≤ longest_text }
 {
     let mut buffer = fresh_buffer();
     let rounded = round_within(player.booth, marks, limit, room, &mut buffer);

@@ -115,7 +115,7 @@ pub(crate) fn run(
     requires { Run command ≡ line_of line.now }
     ensures player_value { result.player ≡ after_command player command line.now }
     ensures puts { Puts text.old at (command_line player command line.now) text.new result.at }
-    ensures line_len_bound { length (command_line player command line.now) ≤ longest_text }
+    ensures line_fits { length (command_line player command line.now) ≤ longest_text }
 {
     let mut buffer = fresh_buffer();
     let session = booth::current_session(player.booth);

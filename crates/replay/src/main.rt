@@ -84,7 +84,7 @@ fn line_ended(reading: Reading, over: bool, line: &[u8], text: &mut [u8]) -> Rea
 fn lengthened(line: &mut [u8], at: usize, bytes: &[u8]) -> usize
     requires { at ≤ length line.old }
     ensures line_after { take result line.new ≡ take (length line.old) (take at line.old ++ bytes.now) }
-    ensures upper_bound { result ≤ length line.new }
+    ensures within { result ≤ length line.new }
 {
     text::put_text(line, at, bytes)
 }

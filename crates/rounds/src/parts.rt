@@ -29,7 +29,7 @@ fn next_planned<'a>(
     from: usize,
 ) -> Write
     requires { Scanned kinds.now matrix settings.now image.now }
-    ensures start_le_end { (result.start ≤ result.end) × (result.end ≤ 908) × (result.start < 908 → result.start < result.end) }
+    ensures bounds { (result.start ≤ result.end) × (result.end ≤ 908) × (result.start < 908 → result.start < result.end) }
     ensures next_is { NextIs (Past (record_of matrix.header settings.now image.now) from)
         (Past (record_of matrix.header settings.now image.now) result.end) result.start result.end }
 {
@@ -48,7 +48,7 @@ fn next_waiting<'a>(
     from: usize,
 ) -> Write
     requires { Scanned kinds.now matrix settings.now image.now }
-    ensures start_le_end { (result.start ≤ result.end) × (result.end ≤ 908) × (result.start < 908 → result.start < result.end) }
+    ensures bounds { (result.start ≤ result.end) × (result.end ≤ 908) × (result.start < 908 → result.start < result.end) }
     ensures next_is { NextIs (Reached (record_of matrix.header settings.now image.now) from)
         (Reached (record_of matrix.header settings.now image.now) result.end) result.start result.end }
 {

@@ -96,9 +96,9 @@ pub fn update(mut r: Record, buffer: &mut [u8]) -> Updated
 
 // What was sent, into the image of a record by value.
 fn store_own(answer: ListAnswer, header: Header, image: &mut [u8; 908], buffer: &[u8]) -> usize
-    ensures by_index { (settings lent : List ℕ) → UpdateSent answer header settings image.old lent buffer.now →
+    ensures stored { (settings lent : List ℕ) → UpdateSent answer header settings image.old lent buffer.now →
         result ≡ update_stored (record_of header settings image.old) (length lent) }
-    ensures by_index_2 { (settings lent : List ℕ) → UpdateSent answer header settings image.old lent buffer.now →
+    ensures image_after { (settings lent : List ℕ) → UpdateSent answer header settings image.old lent buffer.now →
         image.new ≡ (update_of (record_of header settings image.old) (length lent)).host.image }
 {
     store_sent(answer, header, image, buffer)

@@ -149,9 +149,9 @@ pub fn update_parts<'a>(
 // The image takes the list of an update with this answer, which stands at the front of the buffer: of its bytes those that were sent, and
 // no others. It answers how many bytes it stored.
 pub fn store_sent(answer: ListAnswer, header: Header, image: &mut [u8], buffer: &[u8]) -> usize
-    ensures by_index { (settings lent : List ℕ) → UpdateSent answer header settings image.old lent buffer.now →
+    ensures stored { (settings lent : List ℕ) → UpdateSent answer header settings image.old lent buffer.now →
         result ≡ update_stored (record_of header settings image.old) (length lent) }
-    ensures by_index_2 { (settings lent : List ℕ) → UpdateSent answer header settings image.old lent buffer.now →
+    ensures image_after { (settings lent : List ℕ) → UpdateSent answer header settings image.old lent buffer.now →
         image.new ≡ (update_of (record_of header settings image.old) (length lent)).host.image }
 {
     match answer {

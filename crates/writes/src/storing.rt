@@ -12,7 +12,7 @@ use crate::writer::store;
 // (A list has fewer than 2 ^ 16 transactions, each of fewer than 2 ^ 16 bytes.)
 fn store_transaction(image: &mut [u8], bus: u8, list: &[u8], from: usize, size: usize) -> usize
     requires { (from < 2 ^ 33) × (size < 2 ^ 16) }
-    ensures upper_bound { result ≤ size }
+    ensures within { result ≤ size }
     ensures value { 3 ≤ size → from + size ≤ length list.now → Within (length image.old) (burst_of bus (take size (drop from list.now))) →
         (result ≡ length (burst_of bus (take size (drop from list.now))).bytes)
         × (image.new ≡
