@@ -13,20 +13,20 @@ fn rising() -> [u8; 256] {
     bytes
 }
 
-fn several() {
+fn several(rt: &impl Print) {
     let mut list = [0u8; 274];
     put_three_sizes(&mut list, 258, 264);
     let next = put_write(&mut list, 10, 0, 0, 0x000, &[0x01]);
     let next = put_write(&mut list, next, 0, 0, 0x100, &rising());
     put_write(&mut list, next, 0, 0, 0x001, &[0x58]);
-    whole(b"256 data bytes between two writes of one", &list);
+    whole(rt, b"256 data bytes between two writes of one", &list);
 }
 
 // 4 + 2 + 65,530 bytes; the data are 00h.
-fn longest() {
+fn longest(rt: &impl Print) {
     let mut list = [0u8; 65536];
     put_single(&mut list, 65530, 0, 0x000, &[]);
-    summary(b"65,536 bytes in one transaction", &list);
+    summary(rt, b"65,536 bytes in one transaction", &list);
 }
 
 // The most transactions that 65,536 bytes hold: a length and three bytes each, and two bytes more.
@@ -43,15 +43,15 @@ fn put_lengths(list: &mut [u8]) {
 }
 
 // 4 + 2 * 13,106 + 39,320 bytes; heads and data are 00h.
-fn most() {
+fn most(rt: &impl Print) {
     let mut list = [0u8; 65536];
     put_counts(&mut list, MOST, 39320);
     put_lengths(&mut list);
-    summary(b"65,536 bytes in 13,106 transactions", &list);
+    summary(rt, b"65,536 bytes in 13,106 transactions", &list);
 }
 
-pub fn all() {
-    several();
-    longest();
-    most();
+pub fn all(rt: &impl Print) {
+    several(rt);
+    longest(rt);
+    most(rt);
 }

@@ -1,39 +1,42 @@
 // What the program prints, all of it on standard output.
 ghost use Rattle.std.specs.Prelude.{◌≤◌, length};
 
-use libc::STDOUT_FILENO;
-
 // Bytes that have room for the text of any list.
 const ROOM: usize = 196608;
 
-fn say(text: &[u8]) {
-    io::write_all(STDOUT_FILENO, text);
+// A write that fails is not noticed, here and below.
+fn say(rt: &impl Print, text: &[u8]) {
+    let _ = rt.write_all(text);
 }
 
-fn say_line(text: &[u8]) {
-    say(text);
-    say(b"\n");
+fn say_line(rt: &impl Print, text: &[u8]) {
+    say(rt, text);
+    say(rt, b"\n");
+}
+
+fn say_decimal(rt: &impl Print, value: usize) {
+    let _ = rt.print(value);
 }
 
 // The caption, and the list's text with heads of a bus.
-pub fn whole_on(caption: &[u8], bus: usize, list: &[u8]) {
-    say_line(caption);
+pub fn whole_on(rt: &impl Print, caption: &[u8], bus: usize, list: &[u8]) {
+    say_line(rt, caption);
     let mut text = [0u8; ROOM];
     let end = listing::show(bus, list, &mut text);
-    say(&text[..end]);
+    say(rt, &text[..end]);
 }
 
 // With I2C heads.
-pub fn whole(caption: &[u8], list: &[u8]) {
-    whole_on(caption, 0, list);
+pub fn whole(rt: &impl Print, caption: &[u8], list: &[u8]) {
+    whole_on(rt, caption, 0, list);
 }
 
 // The caption, and the list's text on one line.
-pub fn one_line(caption: &[u8], bus: usize, list: &[u8]) {
-    say_line(caption);
+pub fn one_line(rt: &impl Print, caption: &[u8], bus: usize, list: &[u8]) {
+    say_line(rt, caption);
     let mut text = [0u8; ROOM];
     let end = listing::put_list(&mut text, 0, bus, list);
-    say_line(&text[..end]);
+    say_line(rt, &text[..end]);
 }
 
 // Where the first line ends.
@@ -62,19 +65,19 @@ fn lines(text: &[u8]) -> usize {
     count
 }
 
-fn say_summary(text: &[u8]) {
+fn say_summary(rt: &impl Print, text: &[u8]) {
     let end = first_line(text);
-    say_line(&text[..end]);
-    io::print_decimal(STDOUT_FILENO, lines(text) as u64);
-    say(b" lines, ");
-    io::print_decimal(STDOUT_FILENO, text.len() as u64);
-    say(b" bytes\n");
+    say_line(rt, &text[..end]);
+    say_decimal(rt, lines(text));
+    say(rt, b" lines, ");
+    say_decimal(rt, text.len());
+    say(rt, b" bytes\n");
 }
 
 // The caption, the first line of the list's text, and how many lines and bytes that has.
-pub fn summary(caption: &[u8], list: &[u8]) {
-    say_line(caption);
+pub fn summary(rt: &impl Print, caption: &[u8], list: &[u8]) {
+    say_line(rt, caption);
     let mut text = [0u8; ROOM];
     let end = listing::show(0, list, &mut text);
-    say_summary(&text[..end]);
+    say_summary(rt, &text[..end]);
 }

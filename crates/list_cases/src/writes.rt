@@ -29,6 +29,7 @@ pub fn put_single(list: &mut [u8], size: usize, pins: u8, address: usize, bytes:
 }
 
 pub fn single(
+    rt: &impl Print,
     caption: &[u8],
     list: &mut [u8],
     size: usize,
@@ -37,7 +38,7 @@ pub fn single(
     bytes: &[u8],
 ) {
     put_single(list, size, pins, address, bytes);
-    whole(caption, list);
+    whole(rt, caption, list);
 }
 
 // The sizes of three transactions, of which the first and the last have one data byte.
@@ -56,7 +57,7 @@ fn put_bench(list: &mut [u8], bus: u8) {
     put_write(list, next, bus, 0, 0x202, &[0x40]);
 }
 
-pub fn bench(caption: &[u8], list: &mut [u8], bus: u8) {
+pub fn bench(rt: &impl Print, caption: &[u8], list: &mut [u8], bus: u8) {
     put_bench(list, bus);
-    whole(caption, list);
+    whole(rt, caption, list);
 }
