@@ -7,6 +7,8 @@
 //
 // `faults` takes a record by value, and `faults_parts` one that its caller keeps elsewhere, with images of any length: another than 908
 // is unsound.
+#![tactic(auto)]
+
 mod answers;
 mod readings;
 mod untested;

@@ -6,6 +6,8 @@
 //
 // Every function takes any bytes and any numbers. What lies behind an end is neither read nor stored. That a write is the plan's is
 // promised where the tables are the member's and the two images differ only at addresses that may be written, as in a sound record.
+#![tactic(auto)]
+
 mod scan;
 mod storing;
 mod writer;
