@@ -4,6 +4,8 @@
 // the chip at once, and takes the chip's power where the record is told that it was lost. The ledger is what was asked for: it is
 // told the calls and, of their answers, each 17 of a locked register and no other. The crate demand has the claim about whole lists of calls:
 // after an accepted update that wants the chip on, the chip holds what the ledger says, and no list does it in fewer bytes.
+#![tactic(auto)]
+
 mod feeding;
 mod ledgers;
 

@@ -1,4 +1,6 @@
 // Four panels on one bus: a round sends each present chip a part of what waits for it, at most so many bus bytes in all.
+#![tactic(auto)]
+
 mod dealing;
 mod parts;
 mod planning;

@@ -7,6 +7,8 @@
 //
 // Each call by value is a few lines over functions on the header and the lent images (`update_parts`, `store_sent` and so on), which a
 // caller uses that keeps its record elsewhere. They take images of any length: another than 908 is unsound.
+#![tactic(auto)]
+
 mod commands;
 mod lists;
 

@@ -1,0 +1,20 @@
+-- `history::feeding::fed` meets its contract.
+-- Assumes nothing.
+use native.Mathlib.Omega.{arith}
+use Rattle.history.proofs.FedLists.{listed_within, list_length, fed_listed}
+use Rattle.history.proofs.feeding.fed.Goals as goal
+
+pub overflow_mul-size : goal.overflow_mul-size
+overflow_mul-size c = omega (arith, listed_within _ _ _ _ c.in-Listed.is c.requires)
+
+pub overflow_add-size : goal.overflow_add-size
+overflow_add-size c = omega (arith, listed_within _ _ _ _ c.in-Listed.is c.requires)
+
+pub overflow_add-size-in-Listed : goal.overflow_add-size-in-Listed
+overflow_add-size-in-Listed c = omega (arith, listed_within _ _ _ _ c.in-Listed.is c.requires)
+
+pub slice_bounds-list-end : goal.slice_bounds-list-end
+slice_bounds-list-end c = list_length _ _ _ _ c.in-Listed.is c.requires
+
+pub returns-in-Listed : goal.returns-in-Listed
+returns-in-Listed c = fed_listed _ _ _ _ _ _ c.in-Listed.is c.feed-fed.ensures
