@@ -1,21 +1,14 @@
 // What the program prints, all of it on standard output.
 ghost use Rattle.std.specs.Prelude.{◌≤◌, length};
 
+use console::{say, say_decimal};
+
 // Bytes that have room for the text of any list.
 const ROOM: usize = 196608;
-
-// A write that fails is not noticed, here and below.
-fn say(rt: &impl Print, text: &[u8]) {
-    let _ = rt.write_all(text);
-}
 
 fn say_line(rt: &impl Print, text: &[u8]) {
     say(rt, text);
     say(rt, b"\n");
-}
-
-fn say_decimal(rt: &impl Print, value: usize) {
-    let _ = rt.print(value);
 }
 
 // The caption, and the list's text with heads of a bus.
@@ -68,9 +61,9 @@ fn lines(text: &[u8]) -> usize {
 fn say_summary(rt: &impl Print, text: &[u8]) {
     let end = first_line(text);
     say_line(rt, &text[..end]);
-    say_decimal(rt, lines(text));
+    say_decimal(rt, lines(text) as u64);
     say(rt, b" lines, ");
-    say_decimal(rt, text.len());
+    say_decimal(rt, text.len() as u64);
     say(rt, b" bytes\n");
 }
 
