@@ -96,37 +96,43 @@ fn carries(member: usize, at: usize) -> bool {
     false
 }
 
-fn access(count: Count, member: usize, address: usize, carried: bool) -> Count {
+fn access(rt: &impl Print, count: Count, member: usize, address: usize, carried: bool) -> Count {
     let writable = map::writable(member, address);
     let agrees = writable == (address < 0x00C || carried);
     if !agrees {
-        report::carried(member, address, writable);
+        report::carried(rt, member, address, writable);
     }
     tally::compared(count, agrees)
 }
 
-fn unlisted(count: Count, member: usize, address: usize, carried: bool) -> Count {
+fn unlisted(rt: &impl Print, count: Count, member: usize, address: usize, carried: bool) -> Count {
     let reset = map::reset_value(member, address);
     if reset != 0 {
-        report::reset(member, address, reset as usize);
+        report::reset(rt, member, address, reset as usize);
     }
     tally::compared(tally::unlisted(count, carried), reset == 0)
 }
 
-fn address_counted(count: Count, member: usize, address: usize, listed: bool) -> Count {
+fn address_counted(
+    rt: &impl Print,
+    count: Count,
+    member: usize,
+    address: usize,
+    listed: bool,
+) -> Count {
     let carried = carries(member, address);
-    let count = access(count, member, address, carried);
+    let count = access(rt, count, member, address, carried);
     if listed {
         return count;
     }
-    unlisted(count, member, address, carried)
+    unlisted(rt, count, member, address, carried)
 }
 
 // What the map has for each address of a member.
-pub fn counted(mut count: Count, member: usize, marks: &[u8]) -> Count {
+pub fn counted(rt: &impl Print, mut count: Count, member: usize, marks: &[u8]) -> Count {
     for address in 0..ADDRESSES {
         let listed = is_listed(marks, member, address);
-        count = address_counted(count, member, address, listed);
+        count = address_counted(rt, count, member, address, listed);
     }
     count
 }

@@ -4,8 +4,8 @@ use crate::tally::Count;
 use crate::{report, tally};
 use map::Field;
 
-fn shown(count: Count, text: &[u8], agrees: bool) -> Count {
-    report::example(text, agrees);
+fn shown(rt: &impl Print, count: Count, text: &[u8], agrees: bool) -> Count {
+    report::example(rt, text, agrees);
     tally::compared(count, agrees)
 }
 
@@ -13,7 +13,7 @@ fn begins(field: Field, member: usize, line: usize, sink: usize, at: usize) -> b
     is_at(map::place_of(field, member, line, sink), at, 0)
 }
 
-pub fn run() -> Count {
+pub fn run(rt: &impl Print) -> Count {
     let writable = map::writable(3, 0x226) && begins(Field::Pwm16, 3, 1, 1, 0x226);
     let hole = !map::writable(3, 0x228);
     let eight = begins(Field::Pwm8, 0, 8, 2, 0x292);
@@ -23,17 +23,19 @@ pub fn run() -> Count {
     let absent = !map::is_dot(3, 2, 2);
     let count = tally::nothing();
     let count = shown(
+        rt,
         count,
         b"LP5867 226 is writable, 16 bits of line 1, sink 1",
         writable,
     );
-    let count = shown(count, b"LP5867 228 is a hole, not writable", hole);
-    let count = shown(count, b"LP5860 line 8, sink 2: 8 bits at 292", eight);
+    let count = shown(rt, count, b"LP5867 228 is a hole, not writable", hole);
+    let count = shown(rt, count, b"LP5860 line 8, sink 2: 8 bits at 292", eight);
     let count = shown(
+        rt,
         count,
         b"LP5860 line 4, sink 1: 16 bits at 292 and 293",
         sixteen,
     );
-    let count = shown(count, b"LP5867 line 2, sink 8: current at 12C", current);
-    shown(count, b"LP5867 line 2, sink 2 is no dot", absent)
+    let count = shown(rt, count, b"LP5867 line 2, sink 8: current at 12C", current);
+    shown(rt, count, b"LP5867 line 2, sink 2 is no dot", absent)
 }

@@ -48,12 +48,12 @@ pub fn is_expected(row: Row, finding: Finding) -> bool {
 }
 
 // Whether each of them was found. It prints a line for each that was not.
-fn all_found(marks: &[u8]) -> bool {
+fn all_found(rt: &impl Print, marks: &[u8]) -> bool {
     let mut all = true;
     for i in 0..ROWS {
         let row = row_at(i);
         if !addresses::is_found(marks, row.member, row.address) {
-            report::not_found(row.member, row.address);
+            report::not_found(rt, row.member, row.address);
             all = false;
         }
     }
@@ -61,6 +61,6 @@ fn all_found(marks: &[u8]) -> bool {
 }
 
 // Whether each of them was found, and nothing else.
-pub fn met(marks: &[u8], disagreements: u64, broken: u64) -> bool {
-    all_found(marks) && disagreements == ROWS as u64 && broken == 0
+pub fn met(rt: &impl Print, marks: &[u8], disagreements: u64, broken: u64) -> bool {
+    all_found(rt, marks) && disagreements == ROWS as u64 && broken == 0
 }

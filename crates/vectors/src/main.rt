@@ -1,6 +1,8 @@
 // Compares the rows of the five data sheets' summary tables, in the file that its argument names, with the register
 // map, and what the map has for the addresses in no row with document 01. It prints a line for each disagreement and for each
 // line that does not parse, then what it counted, and at last whether the disagreements are the expected ones and no others.
+#![tactic(auto)]
+
 mod addresses;
 mod compare;
 mod examples;
@@ -9,10 +11,21 @@ mod lines;
 mod report;
 mod tally;
 
+use std::env::Env;
+use std::fs::Files;
+use std::io::Read;
+use std::{fs, io};
 use tally::{Count, Tally};
 
 // No row is longer: a line that is does not parse.
 const ROOM: usize = 80;
+
+// The longest path, and the system's numbers for the errors of one that is longer or no UTF-8 text.
+const PATH: usize = 4096;
+
+const TOO_LONG: i32 = 36;
+
+const NOT_TEXT: i32 = 84;
 
 #[derive(Clone, Copy)]
 struct Reader {
@@ -20,8 +33,6 @@ struct Reader {
     // ROOM + 1 where the line is longer than its room
     length: usize,
     tally: Tally,
-    // what the last read answered: 0 at the file's end, below 0 where it failed
-    got: isize,
 }
 
 fn new_reader() -> Reader {
@@ -36,31 +47,36 @@ fn new_reader() -> Reader {
         line: line,
         length: 0,
         tally: tally,
-        got: 1,
     }
 }
 
-fn line_counted(mut tally: Tally, line: [u8; ROOM], length: usize, marks: &mut [u8]) -> Tally {
+fn line_counted(
+    rt: &impl Print,
+    mut tally: Tally,
+    line: [u8; ROOM],
+    length: usize,
+    marks: &mut [u8],
+) -> Tally {
     tally.lines = tally::plus(tally.lines, 1);
     if length <= ROOM {
-        lines::counted(tally, &line[0..length], marks)
+        lines::counted(rt, tally, &line[0..length], marks)
     } else {
-        lines::broken(tally)
+        lines::broken(rt, tally)
     }
 }
 
-fn line_ended(mut reader: Reader, marks: &mut [u8]) -> Reader {
+fn line_ended(rt: &impl Print, mut reader: Reader, marks: &mut [u8]) -> Reader {
     let line = reader.line;
     let tally = reader.tally;
-    let tally = line_counted(tally, line, reader.length, marks);
+    let tally = line_counted(rt, tally, line, reader.length, marks);
     reader.tally = tally;
     reader.length = 0;
     reader
 }
 
-fn with_byte(mut reader: Reader, byte: u8, marks: &mut [u8]) -> Reader {
+fn with_byte(rt: &impl Print, mut reader: Reader, byte: u8, marks: &mut [u8]) -> Reader {
     if byte == b'\n' {
-        return line_ended(reader, marks);
+        return line_ended(rt, reader, marks);
     }
     let length = reader.length;
     if length < ROOM {
@@ -72,86 +88,93 @@ fn with_byte(mut reader: Reader, byte: u8, marks: &mut [u8]) -> Reader {
     reader
 }
 
-fn with_bytes(mut reader: Reader, bytes: &[u8], marks: &mut [u8]) -> Reader {
+fn with_bytes(rt: &impl Print, mut reader: Reader, bytes: &[u8], marks: &mut [u8]) -> Reader {
     for i in 0..bytes.len() {
-        reader = with_byte(reader, bytes[i], marks);
+        reader = with_byte(rt, reader, bytes[i], marks);
     }
     reader
 }
 
-fn read_some(reader: Reader, file: i32, marks: &mut [u8]) -> Reader {
-    let mut buffer = [0u8; 512];
-    let got = libc::read(file, &mut buffer);
-    let n = io::count(got, &buffer);
-    let mut reader = with_bytes(reader, &buffer[..n], marks);
-    reader.got = got;
-    reader
-}
-
-// A proved loop has to end, and nothing says that a file does. So the loop counts its turns down, from a number that no run
-// uses up.
-fn read_all(file: i32, marks: &mut [u8]) -> Reader {
+// The lines of the file. A proved loop has to end, and nothing says that a file does. So the loop counts its turns, up to a number
+// that no run uses up.
+fn read_all(rt: &impl Print, file: &mut impl Read, marks: &mut [u8]) -> io::Result<Tally> {
     let mut reader = new_reader();
-    let mut turns = u64::MAX;
-    while 0 < turns && 0 < reader.got {
-        reader = read_some(reader, file, marks);
-        turns -= 1;
+    let mut buffer = [0u8; 512];
+    for _ in 0..u64::MAX {
+        let n = file.read(&mut buffer)?;
+        if n == 0 {
+            break;
+        }
+        reader = with_bytes(rt, reader, &buffer[..n], marks);
     }
     // the last line of the file may lack its line end
-    if reader.got == 0 && 0 < reader.length {
-        reader = line_ended(reader, marks);
+    if 0 < reader.length {
+        reader = line_ended(rt, reader, marks);
     }
-    reader
+    Ok(reader.tally)
 }
 
 // A member's rows must be of all its writable addresses.
-fn member_counted(member: usize, count: Count, marks: &[u8]) -> Count {
-    let count = addresses::counted(count, member, marks);
+fn member_counted(rt: &impl Print, member: usize, count: Count, marks: &[u8]) -> Count {
+    let count = addresses::counted(rt, count, member, marks);
     let writable = compare::writable_addresses(member);
     let agrees = count.writable == writable;
     if !agrees {
-        report::missing(member, count.writable, writable);
+        report::missing(rt, member, count.writable, writable);
     }
     let count = tally::compared(count, agrees);
-    report::member(member, count);
+    report::member(rt, member, count);
     count
 }
 
-fn finish(tally: Tally, marks: &[u8]) {
+fn finish(rt: &impl Print, tally: Tally, marks: &[u8]) {
     let members = tally.members;
     let mut total = tally::nothing();
     for member in 0..5 {
-        let count = member_counted(member, members[member], marks);
+        let count = member_counted(rt, member, members[member], marks);
         total = tally::together(total, count);
     }
-    let total = tally::together(total, examples::run());
-    report::total(total, tally.broken);
-    report::verdict(expected::met(marks, total.disagreements, tally.broken));
+    let total = tally::together(total, examples::run(rt));
+    report::total(rt, total, tally.broken);
+    report::verdict(
+        rt,
+        expected::met(rt, marks, total.disagreements, tally.broken),
+    );
 }
 
-fn main() {
-    if os::arg_count() != 2 {
-        report::usage();
+// Compares the file that a path names, or says on standard error why it cannot.
+fn compare_file(rt: &(impl Files + Print), err: &impl Print, path: &[u8]) {
+    let Ok(name) = std::str::from_utf8(path) else {
+        let error = io::Error::from_raw_os_error(NOT_TEXT);
+        report::failed(err, b"vectors: cannot open ", path, &error);
         return;
-    }
-    let mut path = io::buffer();
-    let length = os::arg(1, &mut path);
-    if os::errno() != 0 {
-        report::failed(b"vectors: ", b"cannot take its argument");
-        return;
-    }
-    let file = os::open_read(&path[..length]);
-    if file < 0 {
-        report::failed(b"vectors: cannot open ", &path[..length]);
-        return;
-    }
+    };
+    let mut file = match fs::open(rt, name) {
+        Ok(file) => file,
+        Err(error) => {
+            report::failed(err, b"vectors: cannot open ", path, &error);
+            return;
+        }
+    };
     let mut marks = [0u8; addresses::MARKS];
-    let reader = read_all(file, &mut marks);
-    libc::close(file);
-    if reader.got < 0 {
-        report::failed(b"vectors: cannot read ", &path[..length]);
+    match read_all(rt, &mut file, &mut marks) {
+        Ok(tally) => finish(rt, tally, &marks),
+        Err(error) => report::failed(err, b"vectors: cannot read ", path, &error),
+    }
+}
+
+fn main(rt: HostRuntime) {
+    let err = rt.stderr();
+    if console::arg_count(&rt) != 2 {
+        report::usage(&err);
         return;
     }
-    let tally = reader.tally;
-    finish(tally, &marks);
+    let mut path = [0u8; PATH];
+    match rt.arg(1, &mut path) {
+        Ok(length) => compare_file(&rt, &err, &path[..length]),
+        Err(_) => {
+            let error = io::Error::from_raw_os_error(TOO_LONG);
+            report::failed(&err, b"vectors: ", b"cannot take its argument", &error);
+        }
+    }
 }
