@@ -72,4 +72,4 @@ pub returns : goal.returns
 returns c =
     round_put c.args.limit (present_at c.args.present) (records_of c.args.headers c.args.s0.now c.args.i0.now c.args.s1.now c.args.i1.now c.args.s2.now c.args.i2.now c.args.s3.now c.args.i3.now)
     c.args.dealt c.requires.2 c.requires.1 c.args.buffer.now _ _ _ _ _ _ _ _ _ c.args.m0.now _ c.args.m1.now _ c.args.m2.now _ c.args.m3.now _ c.put_header.ensures
-    c.put_at-next.ensures c.put_at-next-2.ensures c.put_at-next-3.ensures c.put_at.ensures
+    (c.put_at-next.ensures.value, (c.put_at-next.ensures.buffer_after, c.put_at-next.ensures.image_after)) (c.put_at-next-2.ensures.value, (c.put_at-next-2.ensures.buffer_after, c.put_at-next-2.ensures.image_after)) (c.put_at-next-3.ensures.value, (c.put_at-next-3.ensures.buffer_after, c.put_at-next-3.ensures.image_after)) (c.put_at.ensures.value, (c.put_at.ensures.buffer_after, c.put_at.ensures.image_after))
