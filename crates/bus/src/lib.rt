@@ -3,6 +3,8 @@
 //
 // A chip of the bus is on I2C and has its place for its pins. The list of an accepted round is fed to every such chip, present or not: what
 // is for other pins passes by. The crate bus_demand has the claim about whole lists of bus calls.
+#![tactic(auto)]
+
 mod hearing;
 mod places;
 

@@ -3,6 +3,8 @@
 // A record is 1,820 bytes in the caller's memory and a chip 911. A call works on them where they stand: it lends their parts to the
 // functions of host, update, faults and chip, and what changes is stored there and nothing else. It answers 0 or the number of its
 // refusal; bytes of another size are refused as an unsound record is. A slice is a pointer and a length in C.
+#![tactic(auto)]
+
 mod lists;
 mod records;
 mod rounding;

@@ -3,6 +3,8 @@
 //
 // `start` is the session before the first line. `run` runs the command of a line, on a buffer where the call asks for one. A line that
 // makes no call is not run here (the crate player has them).
+#![tactic(auto)]
+
 mod behind;
 mod calling;
 mod checking;
