@@ -2,6 +2,8 @@
 // line of a script is about unless it says otherwise. docs/REPLAY.md has the lines.
 //
 // `start` is the four before the first line. A number above 3 names the last place. `round` makes a round of all four.
+#![tactic(auto)]
+
 mod rounding;
 
 ghost use Rattle.std.specs.Prelude.{◌≡◌};

@@ -2,6 +2,8 @@
 //
 // A call is made on the record's bytes. Where it answers 0 and wrote a list, the first 4 + 2n + t bytes of the buffer are fed to the
 // chip at once, and a loss of power is told to both. The crate panel_demand has the claim about whole lists of such calls.
+#![tactic(auto)]
+
 ghost use Rattle.std.specs.Prelude.{◌≡◌, ◌+◌, ◌*◌, ◌≤◌, length};
 ghost use Rattle.panel.specs.PanelStep.{panel_of, stepped, panel_step, chip_fed};
 
