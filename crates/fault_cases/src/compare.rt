@@ -16,16 +16,16 @@ fn flag(value: bool) -> u8 {
     if value { 1 } else { 0 }
 }
 
-fn same(what: &[u8], found: u8, expected: u8) -> bool {
+fn same(rt: &impl Print, what: &[u8], found: u8, expected: u8) -> bool {
     if found != expected {
-        report::difference(what, found, expected);
+        report::difference(rt, what, found, expected);
     }
     found == expected
 }
 
-fn same_at(what: &[u8], number: usize, found: u8, expected: u8) -> bool {
+fn same_at(rt: &impl Print, what: &[u8], number: usize, found: u8, expected: u8) -> bool {
     if found != expected {
-        report::difference_at(what, number, found, expected);
+        report::difference_at(rt, what, number, found, expected);
     }
     found == expected
 }
@@ -52,15 +52,15 @@ fn fault_bytes(named: &[u8]) -> [u8; 67] {
     bytes
 }
 
-fn same_answer(answer: Answer, opens: bool, shorts: bool) -> bool {
+fn same_answer(rt: &impl Print, answer: Answer, opens: bool, shorts: bool) -> bool {
     match answer {
-        Answer::Refused(refusal) => same(b"refusal ", map::refusal_number(refusal), 0),
+        Answer::Refused(refusal) => same(rt, b"refusal ", map::refusal_number(refusal), 0),
         Answer::Read {
             opens_agree,
             shorts_agree,
         } => {
-            let first = same(b"opens agree ", flag(opens_agree), flag(opens));
-            let second = same(b"shorts agree ", flag(shorts_agree), flag(shorts));
+            let first = same(rt, b"opens agree ", flag(opens_agree), flag(opens));
+            let second = same(rt, b"shorts agree ", flag(shorts_agree), flag(shorts));
             first && second
         }
     }
@@ -80,12 +80,12 @@ fn expected(reading: u8, clear: u8) -> u8 {
 }
 
 // Dots and their readings: a number and a reading, and so on. `clear` stands for 0.
-fn same_dots(res: [u8; 200], dots: &[u8], clear: u8) -> bool {
+fn same_dots(rt: &impl Print, res: [u8; 200], dots: &[u8], clear: u8) -> bool {
     let mut all = true;
     for i in 0..dots.len() / 2 {
         let dot = wide(dots[2 * i]);
         let reading = expected(dots[2 * i + 1], clear);
-        if !same_at(b"dot ", dot, byte_at(res, dot), reading) {
+        if !same_at(rt, b"dot ", dot, byte_at(res, dot), reading) {
             all = false;
         }
     }
@@ -103,10 +103,11 @@ fn count(res: [u8; 200], reading: u8) -> u8 {
     count
 }
 
-fn same_counts(res: [u8; 200], counts: [u8; 6]) -> bool {
+fn same_counts(rt: &impl Print, res: [u8; 200], counts: [u8; 6]) -> bool {
     let mut all = true;
     for reading in 0..6 {
         if !same_at(
+            rt,
             b"count of ",
             reading,
             count(res, reading as u8),
@@ -119,10 +120,10 @@ fn same_counts(res: [u8; 200], counts: [u8; 6]) -> bool {
 }
 
 // Every byte from a place on is as it was before the call.
-fn same_behind(res: [u8; 200], from: usize) -> bool {
+fn same_behind(rt: &impl Print, res: [u8; 200], from: usize) -> bool {
     let mut all = true;
     for at in from..200 {
-        if !same_at(b"byte ", at, res[at], BEFORE) {
+        if !same_at(rt, b"byte ", at, res[at], BEFORE) {
             all = false;
         }
     }
@@ -132,6 +133,7 @@ fn same_behind(res: [u8; 200], from: usize) -> bool {
 // The rest of an example's line, behind its name: the record's readings where the fault bytes have the named values, of some dots, and the
 // count of each reading. A lamp with clear bits reads `clear` where the example has 0.
 pub fn reads(
+    rt: &impl Print,
     tally: Tally,
     record: Record,
     named: &[u8],
@@ -143,20 +145,21 @@ pub fn reads(
 ) -> Tally {
     let bytes = fault_bytes(named);
     let mut result = [BEFORE; 200];
-    report::found();
+    report::found(rt);
     let answer = faults::faults(record, &bytes, &mut result);
-    let first = same_answer(answer, opens, shorts);
-    let second = same_dots(result, dots, clear);
-    let third = same_counts(result, counts);
-    let fourth = same_behind(result, DOTS);
+    let first = same_answer(rt, answer, opens, shorts);
+    let second = same_dots(rt, result, dots, clear);
+    let third = same_counts(rt, result, counts);
+    let fourth = same_behind(rt, result, DOTS);
     let all = first && second && third && fourth;
-    report::end(all);
+    report::end(rt, all);
     tally::example(tally, all)
 }
 
 // The number of the answer for a record with so many fault bytes, all FFh, and so much room; 0 stands for no refusal. A refusal leaves
 // the whole buffer, and the bytes behind the readings stay in any case.
 pub fn answers(
+    rt: &impl Print,
     tally: Tally,
     name: &[u8],
     record: Record,
@@ -168,12 +171,12 @@ pub fn answers(
 {
     let bytes = [0xFFu8; 68];
     let mut result = [BEFORE; 200];
-    report::begin(name);
-    report::found();
+    report::begin(rt, name);
+    report::found(rt);
     let answer = faults::faults(record, &bytes[0..given], &mut result[0..room]);
-    let first = same(b"answer ", faults::answer_number(answer), number);
-    let second = same_behind(result, if number == 0 { DOTS } else { 0 });
+    let first = same(rt, b"answer ", faults::answer_number(answer), number);
+    let second = same_behind(rt, result, if number == 0 { DOTS } else { 0 });
     let all = first && second;
-    report::end(all);
+    report::end(rt, all);
     tally::example(tally, all)
 }

@@ -3,8 +3,9 @@
 use crate::lights::reads;
 use crate::tally::Tally;
 
-pub fn lp5860(tally: Tally) -> Tally {
+pub fn lp5860(rt: &impl Print, tally: Tally) -> Tally {
     let tally = reads(
+        rt,
         tally,
         b"LP5860, all bytes 00h",
         0,
@@ -15,6 +16,7 @@ pub fn lp5860(tally: Tally) -> Tally {
         true,
     );
     let tally = reads(
+        rt,
         tally,
         b"LP5860, first dot open, line 1 sink 8 both, last dot short",
         0,
@@ -25,6 +27,7 @@ pub fn lp5860(tally: Tally) -> Tally {
         true,
     );
     let tally = reads(
+        rt,
         tally,
         b"LP5860, sink 7 open and 064h clear",
         0,
@@ -34,11 +37,12 @@ pub fn lp5860(tally: Tally) -> Tally {
         false,
         true,
     );
-    lp5860_summary(tally)
+    lp5860_summary(rt, tally)
 }
 
-fn lp5860_summary(tally: Tally) -> Tally {
+fn lp5860_summary(rt: &impl Print, tally: Tally) -> Tally {
     let tally = reads(
+        rt,
         tally,
         b"LP5860, line 10 sink 0 short and 064h says open",
         0,
@@ -49,6 +53,7 @@ fn lp5860_summary(tally: Tally) -> Tally {
         false,
     );
     let tally = reads(
+        rt,
         tally,
         b"LP5860, no fault and 064h says both",
         0,
@@ -59,6 +64,7 @@ fn lp5860_summary(tally: Tally) -> Tally {
         false,
     );
     reads(
+        rt,
         tally,
         b"LP5860, bits behind sink 17 count for nothing",
         0,
@@ -70,8 +76,9 @@ fn lp5860_summary(tally: Tally) -> Tally {
     )
 }
 
-pub fn lp5861t(tally: Tally) -> Tally {
+pub fn lp5861t(rt: &impl Print, tally: Tally) -> Tally {
     let tally = reads(
+        rt,
         tally,
         b"LP5861T, sinks 0 and 17 open, sink 7 short",
         1,
@@ -82,6 +89,7 @@ pub fn lp5861t(tally: Tally) -> Tally {
         true,
     );
     let tally = reads(
+        rt,
         tally,
         b"LP5861T, bits of absent lines count for nothing",
         1,
@@ -92,6 +100,7 @@ pub fn lp5861t(tally: Tally) -> Tally {
         true,
     );
     reads(
+        rt,
         tally,
         b"LP5861T, bits of absent lines and 064h says both",
         1,
@@ -103,8 +112,9 @@ pub fn lp5861t(tally: Tally) -> Tally {
     )
 }
 
-pub fn lp5864(tally: Tally) -> Tally {
+pub fn lp5864(rt: &impl Print, tally: Tally) -> Tally {
     reads(
+        rt,
         tally,
         b"LP5864, line 3 sink 17 open, sink 9 short, line 4 absent",
         2,
@@ -116,8 +126,9 @@ pub fn lp5864(tally: Tally) -> Tally {
     )
 }
 
-pub fn lp5867(tally: Tally) -> Tally {
+pub fn lp5867(rt: &impl Print, tally: Tally) -> Tally {
     let tally = reads(
+        rt,
         tally,
         b"LP5867, every column of line 2 open",
         3,
@@ -128,6 +139,7 @@ pub fn lp5867(tally: Tally) -> Tally {
         true,
     );
     let tally = reads(
+        rt,
         tally,
         b"LP5867, line 2: sink 0 both, sinks 9 and 17 short",
         3,
@@ -138,6 +150,7 @@ pub fn lp5867(tally: Tally) -> Tally {
         true,
     );
     let tally = reads(
+        rt,
         tally,
         b"LP5867, line 6 sink 17 open, line 7 absent",
         3,
@@ -147,11 +160,12 @@ pub fn lp5867(tally: Tally) -> Tally {
         true,
         true,
     );
-    lp5867_absent(tally)
+    lp5867_absent(rt, tally)
 }
 
-fn lp5867_absent(tally: Tally) -> Tally {
+fn lp5867_absent(rt: &impl Print, tally: Tally) -> Tally {
     let tally = reads(
+        rt,
         tally,
         b"LP5867, open bits of absent columns count for nothing",
         3,
@@ -162,6 +176,7 @@ fn lp5867_absent(tally: Tally) -> Tally {
         true,
     );
     let tally = reads(
+        rt,
         tally,
         b"LP5867, short bits of absent columns count for nothing",
         3,
@@ -172,6 +187,7 @@ fn lp5867_absent(tally: Tally) -> Tally {
         true,
     );
     reads(
+        rt,
         tally,
         b"LP5867, bits of absent columns and 064h says both",
         3,
@@ -183,8 +199,9 @@ fn lp5867_absent(tally: Tally) -> Tally {
     )
 }
 
-pub fn lp5868t(tally: Tally) -> Tally {
+pub fn lp5868t(rt: &impl Print, tally: Tally) -> Tally {
     let tally = reads(
+        rt,
         tally,
         b"LP5868T, line 7 sink 15 open, sink 16 short, line 8 absent",
         4,
@@ -195,6 +212,7 @@ pub fn lp5868t(tally: Tally) -> Tally {
         true,
     );
     let tally = reads(
+        rt,
         tally,
         b"LP5868T, eight shorts",
         4,
@@ -205,6 +223,7 @@ pub fn lp5868t(tally: Tally) -> Tally {
         true,
     );
     reads(
+        rt,
         tally,
         b"LP5868T, eight shorts and 064h says open",
         4,

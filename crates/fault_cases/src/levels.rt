@@ -4,6 +4,7 @@ use crate::tally::Tally;
 use crate::{compare, records, report};
 
 fn reads(
+    rt: &impl Print,
     tally: Tally,
     name: &[u8],
     record: host::Record,
@@ -13,12 +14,13 @@ fn reads(
     opens: bool,
     shorts: bool,
 ) -> Tally {
-    report::begin(name);
-    compare::reads(tally, record, named, dots, 0, counts, opens, shorts)
+    report::begin(rt, name);
+    compare::reads(rt, tally, record, named, dots, 0, counts, opens, shorts)
 }
 
-fn lp5860(tally: Tally) -> Tally {
+fn lp5860(rt: &impl Print, tally: Tally) -> Tally {
     let tally = reads(
+        rt,
         tally,
         b"LP5860, 8 bits: dots at 24, 25 and 255, a dim one open, a dim one short",
         records::with_levels(
@@ -33,6 +35,7 @@ fn lp5860(tally: Tally) -> Tally {
         true,
     );
     reads(
+        rt,
         tally,
         b"LP5860, 16 bits: dots at 6399, 6400, 25 and 65535",
         records::with_levels(
@@ -48,8 +51,9 @@ fn lp5860(tally: Tally) -> Tally {
     )
 }
 
-fn lp5861t(tally: Tally) -> Tally {
+fn lp5861t(rt: &impl Print, tally: Tally) -> Tally {
     let tally = reads(
+        rt,
         tally,
         b"LP5861T, 8 bits: dots at 25 and 200, one at 24 open and short",
         records::with_levels(1, 1, &[3, 25, 0, 4, 24, 0, 17, 200, 0]),
@@ -60,6 +64,7 @@ fn lp5861t(tally: Tally) -> Tally {
         true,
     );
     reads(
+        rt,
         tally,
         b"LP5861T, 16 bits: dots at 6400 and 6399, 064h says open",
         records::with_levels(1, 2, &[16, 0x00, 0x19, 17, 0xFF, 0x18]),
@@ -71,8 +76,9 @@ fn lp5861t(tally: Tally) -> Tally {
     )
 }
 
-fn lp5864(tally: Tally) -> Tally {
+fn lp5864(rt: &impl Print, tally: Tally) -> Tally {
     let tally = reads(
+        rt,
         tally,
         b"LP5864, 8 bits: dots of one line at 25, its last at 24",
         records::with_levels(2, 0, &[54, 25, 0, 55, 25, 0, 70, 25, 0, 71, 24, 0]),
@@ -83,6 +89,7 @@ fn lp5864(tally: Tally) -> Tally {
         true,
     );
     reads(
+        rt,
         tally,
         b"LP5864, 16 bits: dots at 25600 and 6400, one at 6399 short",
         records::with_levels(2, 2, &[0, 0x00, 0x64, 70, 0xFF, 0x18, 71, 0x00, 0x19]),
@@ -94,8 +101,9 @@ fn lp5864(tally: Tally) -> Tally {
     )
 }
 
-fn lp5867(tally: Tally) -> Tally {
+fn lp5867(rt: &impl Print, tally: Tally) -> Tally {
     let tally = reads(
+        rt,
         tally,
         b"LP5867, 8 bits: dots at 24, 25 and 26, a dark one open",
         records::with_levels(3, 0, &[0, 25, 0, 1, 24, 0, 8, 25, 0, 125, 26, 0]),
@@ -106,6 +114,7 @@ fn lp5867(tally: Tally) -> Tally {
         true,
     );
     reads(
+        rt,
         tally,
         b"LP5867, 16 bits: dots at 6400 and 6399, absent columns between",
         records::with_levels(3, 3, &[0, 0x00, 0x19, 1, 0xFF, 0x18, 125, 0x00, 0x19]),
@@ -117,8 +126,9 @@ fn lp5867(tally: Tally) -> Tally {
     )
 }
 
-fn lp5868t(tally: Tally) -> Tally {
+fn lp5868t(rt: &impl Print, tally: Tally) -> Tally {
     let tally = reads(
+        rt,
         tally,
         b"LP5868T, 8 bits: eight dim shorts, a dot at 25",
         records::with_levels(4, 1, &[0, 24, 0, 143, 25, 0]),
@@ -129,6 +139,7 @@ fn lp5868t(tally: Tally) -> Tally {
         true,
     );
     reads(
+        rt,
         tally,
         b"LP5868T, 16 bits: dots at 6399 and 6400, 064h says both",
         records::with_levels(4, 3, &[142, 0xFF, 0x18, 143, 0x00, 0x19]),
@@ -140,10 +151,10 @@ fn lp5868t(tally: Tally) -> Tally {
     )
 }
 
-pub fn all(tally: Tally) -> Tally {
-    let tally = lp5860(tally);
-    let tally = lp5861t(tally);
-    let tally = lp5864(tally);
-    let tally = lp5867(tally);
-    lp5868t(tally)
+pub fn all(rt: &impl Print, tally: Tally) -> Tally {
+    let tally = lp5860(rt, tally);
+    let tally = lp5861t(rt, tally);
+    let tally = lp5864(rt, tally);
+    let tally = lp5867(rt, tally);
+    lp5868t(rt, tally)
 }

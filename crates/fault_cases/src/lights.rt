@@ -57,6 +57,7 @@ const LIGHTS: [Light; COUNT] = [
 
 // The example in one light: where its lamps are dim, those with clear bits read 5.
 fn in_light(
+    rt: &impl Print,
     tally: Tally,
     light: Light,
     member: usize,
@@ -70,6 +71,7 @@ fn in_light(
     let sound = if light.dim { 0 } else { counts[0] };
     let untested = if light.dim { counts[0] } else { 0 };
     compare::reads(
+        rt,
         tally,
         record,
         named,
@@ -84,6 +86,7 @@ fn in_light(
 // The member's readings where the fault bytes have the named values: of some dots, and how many dots read 0, 1, 2, 3 and 4, all of bright
 // lamps.
 pub fn reads(
+    rt: &impl Print,
     tally: Tally,
     name: &[u8],
     member: usize,
@@ -97,9 +100,9 @@ pub fn reads(
     let mut tally = tally;
     for i in 0..COUNT {
         let light = lights[i];
-        report::begin(name);
-        report::light(light.mode, light.level);
-        tally = in_light(tally, light, member, named, dots, counts, opens, shorts);
+        report::begin(rt, name);
+        report::light(rt, light.mode, light.level);
+        tally = in_light(rt, tally, light, member, named, dots, counts, opens, shorts);
     }
     tally
 }

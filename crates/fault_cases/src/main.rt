@@ -3,6 +3,8 @@
 //
 // The fault bytes of an example are 00h but for those that it names: an address and its byte, and so on. Each is read on records whose lamps
 // are all dim and all bright, in every data mode (`lights`); other examples have lamps of several levels (`levels`).
+#![tactic(auto)]
+
 mod compare;
 mod examples;
 mod levels;
@@ -12,14 +14,14 @@ mod refusals;
 mod report;
 mod tally;
 
-fn main() {
+fn main(rt: HostRuntime) {
     let tally = tally::nothing();
-    let tally = examples::lp5860(tally);
-    let tally = examples::lp5861t(tally);
-    let tally = examples::lp5864(tally);
-    let tally = examples::lp5867(tally);
-    let tally = examples::lp5868t(tally);
-    let tally = levels::all(tally);
-    let tally = refusals::all(tally);
-    report::total(tally);
+    let tally = examples::lp5860(&rt, tally);
+    let tally = examples::lp5861t(&rt, tally);
+    let tally = examples::lp5864(&rt, tally);
+    let tally = examples::lp5867(&rt, tally);
+    let tally = examples::lp5868t(&rt, tally);
+    let tally = levels::all(&rt, tally);
+    let tally = refusals::all(&rt, tally);
+    report::total(&rt, tally);
 }

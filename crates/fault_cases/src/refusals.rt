@@ -26,11 +26,20 @@ fn unsound_image() -> Record {
     record
 }
 
-fn unsound(tally: Tally) -> Tally {
-    let tally = answers(tally, b"member 5", of_member_5(), 67, 200, 14);
-    let tally = answers(tally, b"unsound settings", unsound_settings(), 67, 200, 14);
-    let tally = answers(tally, b"an unsound image", unsound_image(), 67, 200, 14);
+fn unsound(rt: &impl Print, tally: Tally) -> Tally {
+    let tally = answers(rt, tally, b"member 5", of_member_5(), 67, 200, 14);
     let tally = answers(
+        rt,
+        tally,
+        b"unsound settings",
+        unsound_settings(),
+        67,
+        200,
+        14,
+    );
+    let tally = answers(rt, tally, b"an unsound image", unsound_image(), 67, 200, 14);
+    let tally = answers(
+        rt,
         tally,
         b"member 5 before 66 bytes",
         of_member_5(),
@@ -39,6 +48,7 @@ fn unsound(tally: Tally) -> Tally {
         14,
     );
     let tally = answers(
+        rt,
         tally,
         b"an unsound image before a result of 197",
         unsound_image(),
@@ -47,6 +57,7 @@ fn unsound(tally: Tally) -> Tally {
         14,
     );
     answers(
+        rt,
         tally,
         b"unsound settings before both",
         unsound_settings(),
@@ -56,11 +67,12 @@ fn unsound(tally: Tally) -> Tally {
     )
 }
 
-fn length(tally: Tally) -> Tally {
-    let tally = answers(tally, b"66 bytes", opened(0), 66, 200, 13);
-    let tally = answers(tally, b"68 bytes", opened(4), 68, 200, 13);
-    let tally = answers(tally, b"no bytes", opened(3), 0, 200, 13);
+fn length(rt: &impl Print, tally: Tally) -> Tally {
+    let tally = answers(rt, tally, b"66 bytes", opened(0), 66, 200, 13);
+    let tally = answers(rt, tally, b"68 bytes", opened(4), 68, 200, 13);
+    let tally = answers(rt, tally, b"no bytes", opened(3), 0, 200, 13);
     answers(
+        rt,
         tally,
         b"66 bytes before a result of 197",
         opened(4),
@@ -70,12 +82,13 @@ fn length(tally: Tally) -> Tally {
     )
 }
 
-pub fn all(tally: Tally) -> Tally {
-    let tally = unsound(tally);
-    let tally = length(tally);
-    let tally = answers(tally, b"a result of 197", opened(0), 67, 197, 10);
-    let tally = answers(tally, b"a result of 0", opened(4), 67, 0, 10);
+pub fn all(rt: &impl Print, tally: Tally) -> Tally {
+    let tally = unsound(rt, tally);
+    let tally = length(rt, tally);
+    let tally = answers(rt, tally, b"a result of 197", opened(0), 67, 197, 10);
+    let tally = answers(rt, tally, b"a result of 0", opened(4), 67, 0, 10);
     let tally = answers(
+        rt,
         tally,
         b"member 4, 67 bytes and a result of 198",
         opened(4),
@@ -84,6 +97,7 @@ pub fn all(tally: Tally) -> Tally {
         0,
     );
     answers(
+        rt,
         tally,
         b"member 0, 67 bytes and a result of 200",
         opened(0),
