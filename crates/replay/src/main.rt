@@ -3,6 +3,8 @@
 //
 // The script has any length. It is read in blocks; the line that is not over yet is carried from block to block in a buffer of
 // its own, and what is to be written waits in a third until the block is played or the longest line has no room behind it.
+#![tactic(auto)]
+
 mod output;
 
 ghost use Rattle.std.specs.Prelude.{◌≡◌, false, cond, ◌++◌, ◌+◌, ◌≤◌, length, take};
@@ -10,9 +12,12 @@ ghost use Rattle.player.specs.Play.{player_after, printed, longest_line};
 
 use output::Output;
 use player::Player;
+use std::io::Read;
 
 // Two bytes more than the longest line that is a call has: its CR, and one more. A longer line is cut to this, which is no call either.
 const LINE: usize = script::LONGEST + 2;
+
+const BLOCK: usize = 65536;
 
 const TEXT: usize = 65536;
 
@@ -64,7 +69,14 @@ fn play(mut reading: Reading, line: &[u8], text: &mut [u8]) -> Reading
 }
 
 // The line, where it is over, is played whole. Behind it there is room for another.
-fn line_ended(reading: Reading, over: bool, line: &[u8], text: &mut [u8]) -> Reading
+fn line_ended(
+    out: &impl Print,
+    err: &impl Print,
+    reading: Reading,
+    over: bool,
+    line: &[u8],
+    text: &mut [u8],
+) -> Reading
     requires { (reading.length ≤ length line.now) × (reading.output.at + longest_line ≤ length text.old) }
     ensures player_value { result.player ≡ cond over (player_after reading.player (take reading.length line.now)) reading.player }
     ensures length_in_bounds { (result.length ≤ length line.now) × (result.output.at + longest_line ≤ length text.new) }
@@ -75,7 +87,7 @@ fn line_ended(reading: Reading, over: bool, line: &[u8], text: &mut [u8]) -> Rea
     let length = reading.length;
     let mut reading = play(reading, &line[..length], text);
     let output = reading.output;
-    let output = output::with_room(text, output);
+    let output = output::with_room(out, err, text, output);
     reading.output = output;
     reading
 }
@@ -98,7 +110,14 @@ fn line_end(block: &[u8], from: usize) -> usize
 }
 
 // The lines of a block; none after a write that failed.
-fn play_block(mut reading: Reading, block: &[u8], line: &mut [u8], text: &mut [u8]) -> Reading
+fn play_block(
+    out: &impl Print,
+    err: &impl Print,
+    mut reading: Reading,
+    block: &[u8],
+    line: &mut [u8],
+    text: &mut [u8],
+) -> Reading
     requires { (length block.now ≤ 65536) × (reading.length ≤ length line.old) × (reading.output.at + longest_line ≤ length text.old) }
     ensures { (result.length ≤ length line.new) × (result.output.at + longest_line ≤ length text.new) }
 {
@@ -106,7 +125,7 @@ fn play_block(mut reading: Reading, block: &[u8], line: &mut [u8], text: &mut [u
     while from < block.len() && !reading.output.failed {
         let to = line_end(block, from);
         reading.length = lengthened(line, reading.length, &block[from..to]);
-        reading = line_ended(reading, to < block.len(), line, text);
+        reading = line_ended(out, err, reading, to < block.len(), line, text);
         from = to + 1;
     }
     reading
@@ -121,67 +140,89 @@ fn stopped(mut reading: Reading) -> Reading
     reading
 }
 
-// After a block, of which `read` answered so much, the text is written.
-fn block_ended(mut reading: Reading, got: isize, text: &[u8]) -> Reading
+// After a block, of which so much was read, the text is written.
+fn block_ended(
+    out: &impl Print,
+    err: &impl Print,
+    mut reading: Reading,
+    got: Option<usize>,
+    text: &[u8],
+) -> Reading
     requires { reading.output.at ≤ length text.now }
     ensures { (result.length ≤ reading.length) × (result.output.at ≡ 0) }
 {
     let output = reading.output;
-    let output = output::flushed(text, output);
+    let output = output::flushed(out, err, text, output);
     let failed = output.failed;
     reading.output = output;
-    reading.more = 0 < got;
     if failed {
         return stopped(reading);
     }
-    if got < 0 {
-        return stopped(reading);
+    match got {
+        Some(n) => {
+            reading.more = 0 < n;
+            reading
+        }
+        None => stopped(reading),
     }
-    reading
 }
 
-fn play_some(reading: Reading, line: &mut [u8], text: &mut [u8]) -> Reading
+fn play_some(
+    input: &mut impl Read,
+    out: &impl Print,
+    err: &impl Print,
+    reading: Reading,
+    line: &mut [u8],
+    text: &mut [u8],
+) -> Reading
     requires { (reading.length ≤ length line.old) × (reading.output.at + longest_line ≤ length text.old) }
     ensures { (result.length ≤ length line.new) × (result.output.at + longest_line ≤ length text.new) }
 {
-    let mut block = io::large_buffer();
-    let got = output::read_some(&mut block);
-    let n = io::count(got, &block);
-    let reading = play_block(reading, &block[..n], line, text);
-    block_ended(reading, got, text)
+    let mut block = [0u8; BLOCK];
+    let got = output::read_some(input, err, &mut block);
+    let n = got.unwrap_or(0);
+    let reading = play_block(out, err, reading, &block[..n], line, text);
+    block_ended(out, err, reading, got, text)
 }
 
 // A proved loop has to end, and nothing says that the input does. So the loop counts its turns down, from a number that no run
 // uses up.
-fn play_all(line: &mut [u8], text: &mut [u8]) -> Reading
+fn play_all(
+    input: &mut impl Read,
+    out: &impl Print,
+    err: &impl Print,
+    line: &mut [u8],
+    text: &mut [u8],
+) -> Reading
     requires { longest_line ≤ length text.old }
     ensures { (result.length ≤ length line.new) × (result.output.at + longest_line ≤ length text.new) }
 {
     let mut reading = new_reading();
     let mut turns = u64::MAX;
     while 0 < turns && reading.more {
-        reading = play_some(reading, line, text);
+        reading = play_some(input, out, err, reading, line, text);
         turns -= 1;
     }
     reading
 }
 
-fn play_input() {
+fn play_input(input: &mut impl Read, out: &impl Print, err: &impl Print) {
     let mut line = [0u8; LINE];
     let mut text = [0u8; TEXT];
-    let reading = play_all(&mut line, &mut text);
+    let reading = play_all(input, out, err, &mut line, &mut text);
     // the last line may lack its LF
     if 0 < reading.length {
-        let reading = line_ended(reading, true, &line, &mut text);
+        let reading = line_ended(out, err, reading, true, &line, &mut text);
         let output = reading.output;
-        output::flushed(&text, output);
+        output::flushed(out, err, &text, output);
     }
 }
 
-fn main() {
-    if 1 < os::arg_count() {
-        output::usage();
+fn main(rt: HostRuntime) {
+    let err = rt.stderr();
+    if 1 < console::arg_count(&rt) {
+        output::usage(&err);
         return;
     }
-    play_input();
+    play_input(&mut rt.stdin(), &rt, &err);
 }

@@ -1,6 +1,9 @@
 // The text that waits to be written, and the calls of the system. What fails ends the program, and a line on standard error says so.
-ghost use Rattle.std.specs.Prelude.{◌≡◌, ◌≤◌, length};
+ghost use Rattle.std.specs.Prelude.{◌≡◌, ◌≤◌, length, IfSome};
 ghost use Rattle.replay.specs.Output.{waiting};
+
+use std::io::{Error, ErrorKind, Read};
+use std::thread;
 
 // How much text waits, and whether a write has failed: then nothing more is written.
 #[derive(Clone, Copy)]
@@ -9,46 +12,44 @@ pub(crate) struct Output {
     pub(crate) failed: bool,
 }
 
-// Whether the call that has just failed can be made again: a signal came before it moved a byte, or a pipe that does not block
-// was full or empty. No function of the libraries waits for a pipe, so another process is let run first.
-fn again() -> bool {
-    let error = os::errno();
-    if error == libc::EINTR {
-        return true;
+// Whether a call that failed so can be made again: a signal came before it moved a byte, or a pipe that does not block was full or
+// empty. No function of the libraries waits for a pipe, so another process is let run first.
+fn again(error: &Error) -> bool {
+    match error.kind() {
+        ErrorKind::Interrupted => true,
+        ErrorKind::WouldBlock => {
+            thread::yield_now();
+            true
+        }
+        _ => false,
     }
-    if error != libc::EAGAIN {
-        return false;
-    }
-    libc::sched_yield();
-    true
 }
 
-// How many of the bytes a write took; 0 where it failed. A proved loop has to end: this one counts down from a number that no run
-// uses up.
-fn write_some(bytes: &[u8]) -> usize
+// How many of the bytes a write took; 0 where it failed, which a line says. A proved loop has to end: this one counts its turns, up to
+// a number that no run uses up.
+fn write_some(out: &impl Print, err: &impl Print, bytes: &[u8]) -> usize
     ensures { result ≤ length bytes.now }
 {
-    let mut turns = u64::MAX;
-    while 0 < turns {
-        let got = libc::write(libc::STDOUT_FILENO, bytes);
-        if 0 <= got {
-            return io::count(got, bytes);
+    for _ in 0..u64::MAX {
+        match out.write_some(bytes) {
+            Ok(took) => return took,
+            Err(error) => {
+                if !again(&error) {
+                    console::fail(err, b"replay: cannot write standard output", &error);
+                    return 0;
+                }
+            }
         }
-        if !again() {
-            return 0;
-        }
-        turns -= 1;
     }
     0
 }
 
 // Whether all the bytes could be written. A write may take only some of them: the next one goes on behind.
-fn written(bytes: &[u8]) -> bool {
+fn written(out: &impl Print, err: &impl Print, bytes: &[u8]) -> bool {
     let mut done = 0;
     while done < bytes.len() {
-        let took = write_some(&bytes[done..]);
+        let took = write_some(out, err, &bytes[done..]);
         if took == 0 {
-            os::fail(b"replay: cannot write standard output");
             return false;
         }
         done += took;
@@ -57,7 +58,7 @@ fn written(bytes: &[u8]) -> bool {
 }
 
 // The text is written, and none waits.
-pub(crate) fn flushed(text: &[u8], output: Output) -> Output
+pub(crate) fn flushed(out: &impl Print, err: &impl Print, text: &[u8], output: Output) -> Output
     requires { output.at ≤ length text.now }
     ensures { result.at ≡ 0 }
 {
@@ -70,41 +71,42 @@ pub(crate) fn flushed(text: &[u8], output: Output) -> Output
     let at = output.at;
     Output {
         at: 0,
-        failed: !written(&text[..at]),
+        failed: !written(out, err, &text[..at]),
     }
 }
 
 // The text is written where the longest line has no room behind it.
-pub(crate) fn with_room(text: &[u8], output: Output) -> Output
+pub(crate) fn with_room(out: &impl Print, err: &impl Print, text: &[u8], output: Output) -> Output
     requires { output.at ≤ length text.now }
     ensures { result.at ≡ waiting (length text.now) output.at }
 {
     if player::LONGEST_LINE <= text.len() - output.at {
         return output;
     }
-    flushed(text, output)
+    flushed(out, err, text, output)
 }
 
-// A block of the script: how many bytes, 0 at its end, below 0 where the read failed.
-pub(crate) fn read_some(block: &mut [u8]) -> isize {
-    let mut turns = u64::MAX;
-    while 0 < turns {
-        let got = libc::read(libc::STDIN_FILENO, block);
-        if 0 <= got {
-            return got;
+// A block of the script: how many bytes, 0 at its end; none where the read failed, which a line says.
+pub(crate) fn read_some(input: &mut impl Read, err: &impl Print, block: &mut [u8]) -> Option<usize>
+    ensures { IfSome result (λ n. n ≤ length block.new) }
+{
+    for _ in 0..u64::MAX {
+        match input.read(block) {
+            Ok(got) => return Some(got),
+            Err(error) => {
+                if !again(&error) {
+                    console::fail(err, b"replay: cannot read standard input", &error);
+                    return None;
+                }
+            }
         }
-        if !again() {
-            os::fail(b"replay: cannot read standard input");
-            return got;
-        }
-        turns -= 1;
     }
-    -1
+    None
 }
 
-pub(crate) fn usage() {
-    io::write_all(
-        libc::STDERR_FILENO,
+pub(crate) fn usage(err: &impl Print) {
+    console::say(
+        err,
         b"replay: takes no arguments, reads a script from standard input\n",
     );
 }
