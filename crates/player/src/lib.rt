@@ -3,6 +3,8 @@
 // `start` is the player before the first line. `play` plays a line and puts what it prints at a place of a text. A line is a command, which
 // the current panel's session runs on a buffer of its own and replies to, or an aside: a comment, `echo`, a picture of the lamps or of fault
 // readings, the registers that differ, or the last list; or it is about the four panels. An aside changes no record and no chip.
+#![tactic(auto)]
+
 mod asides;
 mod panels;
 mod running;
