@@ -29,8 +29,7 @@ fn wrong_size() -> u32
 
 // ---- The record and its settings
 
-#[unsafe(no_mangle)]
-pub extern "C" fn lp586x_open(bytes: &mut [u8], member: u32, bus: u32, pins: u32) -> u32
+pub fn lp586x_open(bytes: &mut [u8], member: u32, bus: u32, pins: u32) -> u32
     ensures value { result ≡ (open_call bytes.old member bus pins).answer }
     ensures bytes_after { bytes.new ≡ (open_call bytes.old member bus pins).bytes }
 {
@@ -71,8 +70,7 @@ pub fn set(bytes: &mut [u8], setting: Setting, lent: &[u8]) -> u32
     numbers.number as u32
 }
 
-#[unsafe(no_mangle)]
-pub extern "C" fn lp586x_register(bytes: &mut [u8], address: u32, value: u32) -> u32
+pub fn lp586x_register(bytes: &mut [u8], address: u32, value: u32) -> u32
     ensures value { result ≡ (setting_call bytes.old (Setting.Register address value) []).answer }
     ensures bytes_after { bytes.new ≡ (setting_call bytes.old (Setting.Register address value) []).bytes }
 {
@@ -83,8 +81,7 @@ pub extern "C" fn lp586x_register(bytes: &mut [u8], address: u32, value: u32) ->
     set(bytes, setting, b"")
 }
 
-#[unsafe(no_mangle)]
-pub extern "C" fn lp586x_lamp(bytes: &mut [u8], line: u32, sink: u32, level: u32) -> u32
+pub fn lp586x_lamp(bytes: &mut [u8], line: u32, sink: u32, level: u32) -> u32
     ensures value { result ≡ (setting_call bytes.old (Setting.Lamp line sink level) []).answer }
     ensures bytes_after { bytes.new ≡ (setting_call bytes.old (Setting.Lamp line sink level) []).bytes }
 {
@@ -96,8 +93,7 @@ pub extern "C" fn lp586x_lamp(bytes: &mut [u8], line: u32, sink: u32, level: u32
     set(bytes, setting, b"")
 }
 
-#[unsafe(no_mangle)]
-pub extern "C" fn lp586x_group(bytes: &mut [u8], line: u32, sink: u32, group: u32) -> u32
+pub fn lp586x_group(bytes: &mut [u8], line: u32, sink: u32, group: u32) -> u32
     ensures value { result ≡ (setting_call bytes.old (Setting.Group line sink group) []).answer }
     ensures bytes_after { bytes.new ≡ (setting_call bytes.old (Setting.Group line sink group) []).bytes }
 {
@@ -109,8 +105,7 @@ pub extern "C" fn lp586x_group(bytes: &mut [u8], line: u32, sink: u32, group: u3
     set(bytes, setting, b"")
 }
 
-#[unsafe(no_mangle)]
-pub extern "C" fn lp586x_switch(bytes: &mut [u8], line: u32, sink: u32, state: u32) -> u32
+pub fn lp586x_switch(bytes: &mut [u8], line: u32, sink: u32, state: u32) -> u32
     ensures value { result ≡ (setting_call bytes.old (Setting.Switch line sink state) []).answer }
     ensures bytes_after { bytes.new ≡ (setting_call bytes.old (Setting.Switch line sink state) []).bytes }
 {
@@ -122,16 +117,14 @@ pub extern "C" fn lp586x_switch(bytes: &mut [u8], line: u32, sink: u32, state: u
     set(bytes, setting, b"")
 }
 
-#[unsafe(no_mangle)]
-pub extern "C" fn lp586x_scene(bytes: &mut [u8], scene: &[u8]) -> u32
+pub fn lp586x_scene(bytes: &mut [u8], scene: &[u8]) -> u32
     ensures value { result ≡ (setting_call bytes.old Setting.Scene scene.now).answer }
     ensures bytes_after { bytes.new ≡ (setting_call bytes.old Setting.Scene scene.now).bytes }
 {
     set(bytes, Setting::Scene, scene)
 }
 
-#[unsafe(no_mangle)]
-pub extern "C" fn lp586x_power_lost(bytes: &mut [u8]) -> u32
+pub fn lp586x_power_lost(bytes: &mut [u8]) -> u32
     ensures value { result ≡ (power_lost_call bytes.old).answer }
     ensures bytes_after { bytes.new ≡ (power_lost_call bytes.old).bytes }
 {
@@ -144,8 +137,7 @@ pub extern "C" fn lp586x_power_lost(bytes: &mut [u8]) -> u32
     map::answer_number(answer) as u32
 }
 
-#[unsafe(no_mangle)]
-pub extern "C" fn lp586x_lock(bytes: &mut [u8]) -> u32
+pub fn lp586x_lock(bytes: &mut [u8]) -> u32
     ensures value { result ≡ (lock_call bytes.old).answer }
     ensures bytes_after { bytes.new ≡ (lock_call bytes.old).bytes }
 {
@@ -160,8 +152,7 @@ pub extern "C" fn lp586x_lock(bytes: &mut [u8]) -> u32
 
 // ---- Lists of bus writes
 
-#[unsafe(no_mangle)]
-pub extern "C" fn lp586x_update(
+pub fn lp586x_update(
     bytes: &mut [u8],
     buffer: &mut [u8],
     n: &mut u32,
@@ -188,8 +179,7 @@ pub extern "C" fn lp586x_update(
     lists::put_update(answer, sent, n, t, stored, needed)
 }
 
-#[unsafe(no_mangle)]
-pub extern "C" fn lp586x_reset(bytes: &mut [u8], buffer: &mut [u8], n: &mut u32, t: &mut u32) -> u32
+pub fn lp586x_reset(bytes: &mut [u8], buffer: &mut [u8], n: &mut u32, t: &mut u32) -> u32
     ensures value { result ≡ (reset_call bytes.old buffer.old n.old t.old).answer }
     ensures bytes_after { bytes.new ≡ (reset_call bytes.old buffer.old n.old t.old).bytes }
     ensures buffer_after { buffer.new ≡ (reset_call bytes.old buffer.old n.old t.old).buffer }
@@ -208,8 +198,7 @@ pub extern "C" fn lp586x_reset(bytes: &mut [u8], buffer: &mut [u8], n: &mut u32,
     lists::count(answer, n, t)
 }
 
-#[unsafe(no_mangle)]
-pub extern "C" fn lp586x_clear(bytes: &[u8], buffer: &mut [u8], n: &mut u32, t: &mut u32) -> u32
+pub fn lp586x_clear(bytes: &[u8], buffer: &mut [u8], n: &mut u32, t: &mut u32) -> u32
     ensures value { result ≡ (clear_call bytes.now buffer.old n.old t.old).answer }
     ensures buffer_after { buffer.new ≡ (clear_call bytes.now buffer.old n.old t.old).buffer }
     ensures n_after { n.new ≡ (clear_call bytes.now buffer.old n.old t.old).n }
@@ -225,8 +214,7 @@ pub extern "C" fn lp586x_clear(bytes: &[u8], buffer: &mut [u8], n: &mut u32, t: 
     lists::count(answer, n, t)
 }
 
-#[unsafe(no_mangle)]
-pub extern "C" fn lp586x_round(
+pub fn lp586x_round(
     bytes: &mut [u8],
     present: u32,
     limit: u32,
@@ -248,8 +236,7 @@ pub extern "C" fn lp586x_round(
     lists::count(answer, n, t)
 }
 
-#[unsafe(no_mangle)]
-pub extern "C" fn lp586x_transaction(
+pub fn lp586x_transaction(
     list: &[u8],
     index: u32,
     offset: &mut u32,
@@ -295,8 +282,7 @@ fn agree(answer: faults::Answer, opens: &mut u32, shorts: &mut u32) -> u32
     }
 }
 
-#[unsafe(no_mangle)]
-pub extern "C" fn lp586x_faults(
+pub fn lp586x_faults(
     bytes: &[u8],
     given: &[u8],
     res: &mut [u8],
@@ -320,8 +306,7 @@ pub extern "C" fn lp586x_faults(
 
 // ---- The chip model
 
-#[unsafe(no_mangle)]
-pub extern "C" fn lp586x_chip_at_reset(bytes: &mut [u8], member: u32, bus: u32, pins: u32) -> u32
+pub fn lp586x_chip_at_reset(bytes: &mut [u8], member: u32, bus: u32, pins: u32) -> u32
     ensures value { result ≡ (chip_at_reset_call bytes.old member bus pins).answer }
     ensures bytes_after { bytes.new ≡ (chip_at_reset_call bytes.old member bus pins).bytes }
 {
@@ -338,8 +323,7 @@ pub extern "C" fn lp586x_chip_at_reset(bytes: &mut [u8], member: u32, bus: u32, 
     }
 }
 
-#[unsafe(no_mangle)]
-pub extern "C" fn lp586x_chip_power_lost(bytes: &mut [u8]) -> u32
+pub fn lp586x_chip_power_lost(bytes: &mut [u8]) -> u32
     ensures value { result ≡ (chip_power_lost_call bytes.old).answer }
     ensures bytes_after { bytes.new ≡ (chip_power_lost_call bytes.old).bytes }
 {
@@ -351,8 +335,7 @@ pub extern "C" fn lp586x_chip_power_lost(bytes: &mut [u8]) -> u32
     0
 }
 
-#[unsafe(no_mangle)]
-pub extern "C" fn lp586x_chip_feed(bytes: &mut [u8], list: &[u8]) -> u32
+pub fn lp586x_chip_feed(bytes: &mut [u8], list: &[u8]) -> u32
     ensures value { result ≡ (chip_feed_call bytes.old list.now).answer }
     ensures bytes_after { bytes.new ≡ (chip_feed_call bytes.old list.now).bytes }
 {
