@@ -1,27 +1,11 @@
 -- The line so far, as its buffer carries it: what is put behind it stands behind it, as far as the buffer has room.
 -- Assumes nothing.
-use mathlib.Core.Path.{◌≡◌, refl, sym, ap, ◌∙◌}
-use mathlib.Core.Bool.{Bool, true, false}
-use mathlib.Core.List.{List, [], ◌∷◌, ◌++◌, append_assoc, append-nil}
-use Prim.Native.Nat.{ℕ, zero, suc, ◌+◌, ◌≤◌, ◌<◌}
-use native.Mathlib.Omega.{arith}
-use borrow.Author.Tests.{ltb-true, ltb-false}
-use lib.Dec.{ltb}
-use lib.ListN.{length, set, take, length-set}
-use lib.Seq.{take-suc-set, set_out, length-take-le}
+use Rattle.std.proofs.Common.{◌≡◌, refl, sym, ap, ◌∙◌, Bool, true, false, ltb, List, [], ◌∷◌, ◌++◌, append_assoc, append-nil, ℕ, suc, ◌<◌, ◌≤◌, length, set, take, arith, length-set, take-suc-set, length-take-le}
+use Rattle.std.proofs.Math.Seq.{set_out}
+use Rattle.std.proofs.lemmas.Bool.{ltb-true, ltb-false}
+use Rattle.std.proofs.lemmas.List.{take-append-le, take_all}
 use Rattle.text.specs.Text.{next_place, placed, place_after, Puts}
 use Rattle.text.specs.TextLaws.{next_inside, next_behind, puts_inside}
-
-take_front : (n : ℕ) (x y : List ℕ) → n ≤ length x → take n (x ++ y) ≡ take n x
-take_front zero x y h = refl
-take_front (suc n) [] y h = absurd (omega arith)
-take_front (suc n) (a ∷ x) y h = ap (λ (l : List ℕ). a ∷ l) (take_front n x y (omega arith))
-
-take_all : (n : ℕ) (x : List ℕ) → length x ≤ n → take n x ≡ x
-take_all zero [] h = refl
-take_all zero (a ∷ x) h = absurd (omega arith)
-take_all (suc n) [] h = refl
-take_all (suc n) (a ∷ x) h = ap (λ (l : List ℕ). a ∷ l) (take_all n x (omega arith))
 
 placed_front : (buffer : List ℕ) (at : ℕ) (xs : List ℕ) → at ≤ length buffer →
     take (place_after (length buffer) at xs) (placed buffer at xs) ≡ take (length buffer) (take at buffer ++ xs)
@@ -45,8 +29,8 @@ placed_front buffer at (x ∷ xs) h = go (ltb at (length buffer)) refl (placed_f
         let behind : length buffer ≤ at = ltb-false at (length buffer) e in
         let size : length buffer ≤ length (take at buffer) = omega (arith, length-take-le at buffer h) in
         rw (next_behind (length buffer) at behind, set_out buffer at x behind) full
-        ∙ take_front (length buffer) (take at buffer) xs size
-        ∙ sym (take_front (length buffer) (take at buffer) (x ∷ xs) size)
+        ∙ take-append-le (length buffer) (take at buffer) xs size
+        ∙ sym (take-append-le (length buffer) (take at buffer) (x ∷ xs) size)
 
 pub carried : (old : List ℕ) (at : ℕ) (bytes new : List ℕ) (r : ℕ) → at ≤ length old → Puts old at bytes new r →
     (take r new ≡ take (length old) (take at old ++ bytes)) × (r ≤ length new)
