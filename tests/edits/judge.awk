@@ -2,8 +2,9 @@
 #     kind=source FILES.. kind=specs FILES.. kind=proofs FILES.. kind=edit FILE kind=log FILE
 #
 # The sources tell which functions each wrong version changes, the log which functions were refused for themselves. Both must be the
-# functions that the version names. The files of specs/ tell which declarations a wrong version changes, and which of them a law sees
-# (specs.awk): the laws that a version names must be refused for themselves, see what it changes, and see nothing that another version changes.
+# functions that the version names. The files of specs/ and the lemma files of proofs/ tell which declarations a wrong version changes, and
+# which of them a law sees (specs.awk): the laws that a version names must be refused for themselves, see what it changes, and see nothing that
+# another version changes.
 
 function hold(what) {
     print "judge: " edit ": " what
@@ -27,6 +28,11 @@ kind == "source" && FNR == 1 {
     item = ""
 }
 
+kind == "source" && /^#\[cycle\([a-z0-9_]+\)\]$/ {
+    cycle = $0
+    gsub(/^#\[cycle\(|\)\]$/, "", cycle)
+}
+
 kind == "source" {
     line[file, FNR] = $0
     lines[file] = FNR
@@ -37,13 +43,15 @@ kind == "source" {
         sub(/[^A-Za-z0-9_].*$/, "", word[2])
         item = "type"
         if (word[1] == "fn") item = "fn " path_of(file, word[2])
+        if (word[1] == "fn" && cycle != "") cycles[path_of(file, cycle)] = cycles[path_of(file, cycle)] " " path_of(file, word[2])
+        cycle = ""
         if (word[1] == "const" || word[1] == "static") item = "const " word[2]
         if (item ~ /^const / && declared[item]++) hold("two constants are called " word[2] ", and the judge cannot tell them apart")
         in_body = 0
     }
     owner[file, FNR] = item
     body[file, FNR] = in_body
-    if (item ~ /^fn / && $0 ~ /(^|[) ])\{$/) in_body = 1
+    if (item ~ /^fn / && $0 ~ /^([^ ].*[) ])?\{$/) in_body = 1
     code = $0
     sub(/ *\/\/.*$/, "", code)
     if (code ~ /^\}/ || code ~ /^[^ ].*\}$/ || (item !~ /^fn / && code ~ /;$/)) item = ""
@@ -70,18 +78,23 @@ function change_users(name,    i, n, who) {
 
 # ---- The edit
 
-# proofs/a/f/Proof.antt is the proof of crate::a::f; proofs/a/+f+g/Proof.antt that of both, which call one another.
-# Leaves their names in `proved` and returns how many there are; 0 where the file is no function's own.
-function proved_in(file,    step, n, i, at) {
-    if (file !~ /\/Proof\.antt$/) return 0
+# proofs/a/f/Answers.antt is of the proof of crate::a::f; proofs/a/+f/Answers.antt too, where f calls itself; proofs/a/+g/Answers.antt is of
+# the proof of all that have #[cycle(g)]. Leaves their names in `proved` and returns how many there are; 0 where the file is no function's own.
+function proved_in(file,    step, n, i, at, of) {
+    if (file !~ /^proofs\/.*\/(Invariants|Answers|Proof)\.antt$/) return 0
     n = split(file, step, "/") - 1
     at = crate
     for (i = 2; i < n; i++) at = at "::" step[i]
-    sub(/^\+/, "", step[n])
-    n = split(step[n], proved, "+")
-    for (i = 1; i <= n; i++) proved[i] = at "::" proved[i]
-    return n
+    of = at "::" step[n]
+    if (step[n] ~ /^\+/) {
+        of = at "::" substr(step[n], 2)
+        if (of in cycles) of = cycles[of]
+    }
+    return split(of, proved, " ")
 }
+
+# A file of definitions and laws: of specs/, or one of lemmas, right in proofs/
+function is_of_laws(file) { return file ~ /^(specs\/.*|proofs\/[^\/]*)\.antt$/ }
 
 # Loads a file of specs/ or proofs/, and finds the line of the text that is replaced: once in its file, as rt demands.
 function place_of(file, old,    n, at, found, text) {
@@ -101,11 +114,11 @@ function place_of(file, old,    n, at, found, text) {
     return found == 1
 }
 
-# The version changes the declaration of specs/ that the line `place` of the file belongs to.
+# The version changes the declaration of specs/ or proofs/ that the line `place` of the file belongs to.
 function redefine(file, old,    what) {
     what = declaration[file, place]
     if (!version) alone = 1
-    else if (!(version in of_laws)) hold(label[version] " changes " file ", but names no law of specs/")
+    else if (!(version in of_laws)) hold(label[version] " changes " file ", but names no law")
     else if (what == "") hold(label[version] " changes a line of no declaration: " old)
     else {
         if (what in redefined && redefined[what] != version) hold(what " is wrong twice, " label[redefined[what]] " and " label[version])
@@ -119,7 +132,7 @@ function replace(file, old, new,    n, i, at, text, who) {
     text = line[file, place]
     at = index(text, old)
     line[file, place] = substr(text, 1, at - 1) new substr(text, at + length(old))
-    if (file ~ /^specs\//) {
+    if (is_of_laws(file)) {
         of_specs = defined[file] = 1
         redefine(file, old)
         return
@@ -178,34 +191,33 @@ kind == "edit" && /^new:/ {
 
 # ---- The log
 #
-# A function is refused for itself where its line says `not proved` and blames no function that it calls, or says that there is no proof
-# and `search` finds none, or where a lemma of its own proof is refused. Two kinds of error there show nothing: one that only says that
-# something else was refused before, as in the proof of each caller; and one that says that the proof no longer fits the code, since
-# needs or steps were added or are gone, or since the check does not cover code of this form: a right version of another shape would be
-# refused as well.
+# A function is refused for itself where its line says `not proved` and blames no function that it calls; or where a goal of it is open that no
+# answer was written for, which `search` does not prove; or where an answer, an invariant or a lemma of its own proof is refused. Two kinds of
+# error there show nothing: one that only says that something else was refused before; and one that says that the proof no longer fits
+# the code, since goals or steps were added, are gone or have other names, or since the check does not cover code of this form: a right version
+# of another shape would be refused as well.
 
 # A definition is refused by a law, an example or a proof that is refused for itself; where several are wrong, by the laws and examples that
 # their versions name. A file of specs/ that the edit changes must stand: a text that is no definition breaks every law, and shows nothing.
 
-# The error `said` at the file `at` is no follower of another: what it is about was refused for itself.
-function hear_fall(    name, unit) {
-    broken = 1
-    if (at !~ /^specs\// || said !~ /^`[^`]+`: /) return
+# `name`: in front of what is said, where it is said of one declaration
+function told_of(    name) {
+    if (said !~ /^`[^`]+`: /) return ""
     split(said, name, "`")
-    unit = at
-    sub(/^.*\//, "", unit)
-    sub(/\.antt$/, "", unit)
-    fell[unit "." name[2]] = 1
+    return name[2]
 }
 
 # What the error at `at` says, its further lines included
 function hear_error(    n, i) {
     if (at in defined) ill = 1
-    else if (at != "" && said !~ /was not admitted/) hear_fall()
+    else if (at != "" && said !~ /was not admitted|^[0-9]+ declarations? that depends? on /) {
+        broken = 1
+        if (is_of_laws(at) && told_of() != "") fell[unit_of(at) "." told_of()] = 1
+    }
     n = at == "" ? 0 : proved_in(at)
     for (i = 1; i <= n; i++)
-        if (said ~ /was not admitted .*so this cannot be checked/) continue
-        else if (said ~ /has no `(Need-|Tie`)/ || said ~ /has no field `/ || said ~ /^`[^`]*-spec`: /) misfit[proved[i]] = 1
+        if (said ~ /was not admitted|^[0-9]+ declarations? that depends? on /) continue
+        else if (said ~ /has no `[^`]*` that can be named from here|has no field `| is not in scope|^`[^`]*_spec`: /) misfit[proved[i]] = 1
         else own[proved[i]] = 1
     at = ""
 }
@@ -217,17 +229,21 @@ kind == "log" && /^  / {
 
 kind == "log" { hear_error() }
 
-kind == "log" && /\/(specs|proofs)\/.*\.antt:[0-9]+:[0-9]+: error: / {
+kind == "log" && /^\.\/(specs|proofs)\/.*\.antt:[0-9]+:[0-9]+: error: / {
     i = index($0, ": error: ")
-    at = substr($0, 1, i - 1)
+    at = substr($0, 3, i - 3)
     said = substr($0, i + length(": error: "))
     sub(/:[0-9]+:[0-9]+$/, "", at)
-    sub(/^.*\/must-fail\/[^\/]*\/[^\/]*\//, "", at)
 }
 
-kind == "log" && (/^fn [^ ]+: not proved$/ || /^fn [^ ]+: no proof: .*`search` does not close/) {
+# Those that are open stand in front of the function's own line.
+kind == "log" && /^note: src\/[^ ]*:[0-9]+:[0-9]+: it is not proved that / { open = 1 }
+
+kind == "log" && /^fn [^ ]+: / {
     sub(/:$/, "", $2)
-    own[$2] = 1
+    if (/; the borrow checker does not cover /) misfit[$2] = 1
+    else if (open || /: not proved$/ || /: no proof: .*`search` did not prove /) own[$2] = broken = 1
+    open = 0
 }
 
 kind == "log" && /^logic=not-proved/ { refused = 1 }
@@ -235,16 +251,17 @@ kind == "log" && /^logic=not-proved/ { refused = 1 }
 # ---- The verdict
 
 # The laws that the versions of definitions name
-function judge_laws(    v, pair, part, other) {
+function judge_laws(    v, pair, part, law, other) {
     for (v in of_laws) if (!(v in redefines)) hold(label[v] " changes no definition")
     for (pair in falls) {
         split(pair, part, SUBSEP)
-        if (!(part[2] in text_of)) {
+        law = law_of(part[2])
+        if (!(law in text_of)) {
             hold(label[part[1]] " names " part[2] ", which is not there")
             continue
         }
-        if (!(part[2] in fell)) hold(label[part[1]] ": " part[2] " was not refused for itself")
-        other = sees_other(part[2], part[1])
+        if (!(law in fell)) hold(label[part[1]] ": " part[2] " was not refused for itself")
+        other = sees_other(law, part[1])
         if (other != "") hold(label[part[1]] ": " part[2] " sees " other ", which " label[redefined[other]] " changes")
         if (!sees_own) hold(label[part[1]] ": " part[2] " does not see what it changes")
     }

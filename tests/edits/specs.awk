@@ -1,63 +1,94 @@
-# What a law can feel: the declarations of specs/, and which of them a law sees. Read beside judge.awk, which has the rest.
+# What a law can feel: the declarations of specs/ and of the lemma files right in proofs/, and which of them a law sees. Read beside judge.awk,
+# which has the rest.
 #
-# A law sees what its text names, what the text of that names, and so on through the files of specs/ of its own crate. That is more than
+# A law sees what its text names, what the text of that names, and so on through these files of its own crate. That is more than
 # the check looks at, since a definition is shut where nobody unfolds it; so a law that does not see a declaration cannot fall by it.
 #
 #   declaration[FILE, LINE]  the declaration that a line of a file belongs to, as File.name
 #   text_of[File.name]       its whole text, comments left out, with the headers of the modules that it stands in
 #   means[File, NAME]        what a name says in a file: File.name of its own crate
-#   by_code[File.name]       names of specs/ that src/ or proofs/ use
+#   by_code[File.name]       names of these files that src/ or the proof of a function uses
+#
+# File is the name of the file; where specs/ and proofs/ both have one of this name, that of proofs/ is proofs.File.
 
-# The names of a text, without brackets, fields (`.name`) and the λ in front; returns how many there are.
+BEGIN {
+    for (i = 1; i < ARGC; i++) {
+        if (ARGV[i] ~ /\/specs\/[^\/]*\.antt$/) in_specs[base_of(ARGV[i])] = 1
+        if (ARGV[i] ~ /\/proofs\/[^\/]*\.antt$/) in_proofs[base_of(ARGV[i])] = 1
+    }
+}
+
+function base_of(file) {
+    sub(/^.*\//, "", file)
+    sub(/\.antt$/, "", file)
+    return file
+}
+
+function unit_of(file) { return (file ~ /^proofs\// && base_of(file) in in_specs ? "proofs." : "") base_of(file) }
+
+# The law that a version names
+function law_of(name) { return !(name in text_of) && ("proofs." name) in text_of ? "proofs." name : name }
+
+# The names of a text, without brackets, fields and the λ in front; returns how many there are.
 function words_of(text, word,    n, i, k) {
     gsub(/[(){};,\[\]]/, " ", text)
     n = split(text, word, " ")
     for (i = 1; i <= n; i++) {
-        if (word[i] ~ /^\./) continue
-        sub(/\.$/, "", word[i])
         sub(/^λ/, "", word[i])
-        word[++k] = word[i]
+        if (word[i] !~ /^Rattle\./) sub(/\..*$/, "", word[i])
+        if (word[i] != "") word[++k] = word[i]
     }
     return k + 0
 }
 
-# `use Rattle·CRATE·specs.specs.File.{a, b}`: a and b are File.a and File.b, in the file of specs/ `where`, or in the code.
+# `Rattle.CRATE.specs.File.name`, or proofs.File.name, as File.name; "" where it is none of these files'
+function whole_name(path,    step) {
+    if (index(path, own_crate) != 1) return ""
+    split(substr(path, length(own_crate) + 1), step, ".")
+    if (step[1] == "specs" ? !(step[2] in in_specs) : step[1] != "proofs" || !(step[2] in in_proofs)) return ""
+    return step[3] == "" ? "" : unit_of(step[1] "/" step[2]) "." step[3]
+}
+
+# `use Rattle.CRATE.specs.File.{a, b}`: a and b are File.a and File.b, in the unit `where` or in the code.
 function take_use(text, where,    from, n, i, name) {
-    if (index(text, own_specs) == 0 || index(text, own_specs "declared.")) return
-    if (text !~ /\.\{[^{}]*\};? *$/ || text ~ / as /) {
+    sub(/^ *(ghost )?use /, "", text)
+    if (index(text, own_crate) != 1 || whole_name(text) == "") return
+    if (text !~ /^[^{ ]*\.\{[^{}]*\};? *$/) {
         hold("the judge cannot read this line of " where ": " text)
         return
     }
     from = text
-    sub(/\.\{.*$/, "", from)
-    sub(/^.*\./, "", from)
+    sub(/\{.*$/, "", from)
     sub(/^[^{]*\{/, "", text)
     sub(/\}.*$/, "", text)
     n = split(text, name, /, */)
     for (i = 1; i <= n; i++)
-        if (where == "code") by_code[from "." name[i]] = 1
-        else means[where, name[i]] = from "." name[i]
+        if (where == "code") by_code[whole_name(from name[i])] = 1
+        else means[where, name[i]] = whole_name(from name[i])
 }
 
-# A name of specs/ that the code or a proof writes whole.
-function take_whole(text,    name) {
-    while (match(text, /·specs\.specs\.[A-Z][A-Za-z0-9]*\.[^ (){},;]+/)) {
-        name = substr(text, RSTART, RLENGTH)
-        sub(/^.*specs\.specs\./, "", name)
-        by_code[name] = 1
-        text = substr(text, RSTART + RLENGTH)
+# The names that the code or a function's proof writes whole: `Rattle.CRATE.specs.File.name`, and `crate::proofs::File::name` of an attribute
+function take_whole(text,    name, i) {
+    gsub(/crate::/, own_crate, text)
+    gsub(/::/, ".", text)
+    while ((i = index(text, own_crate)) > 0) {
+        text = substr(text, i)
+        name = text
+        sub(/[ (){},;].*$/, "", name)
+        if (whole_name(name) != "") by_code[whole_name(name)] = 1
+        text = substr(text, length(own_crate))
     }
 }
 
 # A line that begins a declaration has its name in front of a colon, or behind `data` or `record`; further in than the last one it is a part of that.
 function begins_declaration(text) {
     if (inside != "" && indent > inside_indent) return 0
-    return text ~ /^((unfoldable|abbrev|pub|axiom) )*((data|record) +[^ :(){}]|[^ :(){}=]+( \{[^}]*\})? :( |$))/
+    return text ~ /^((unfoldable|abbrev|opaque|pub|axiom) )*((data|record) +[^ :(){}]|[^ :(){}=]+( \{[^}]*\})? :( |$))/
 }
 
 function begin_declaration(text,    i) {
-    in_data = text ~ /^((unfoldable|abbrev|pub) )*data /
-    sub(/^((unfoldable|abbrev|pub|axiom) )*((data|record) +)?/, "", text)
+    in_data = text ~ /^((unfoldable|abbrev|opaque|pub) )*data /
+    sub(/^((unfoldable|abbrev|opaque|pub|axiom) )*((data|record) +)?/, "", text)
     sub(/[ :(){}].*$/, "", text)
     inside = unit "." text
     inside_indent = indent
@@ -92,25 +123,29 @@ function read_line(text,    bare) {
     declaration[file, FNR] = inside
 }
 
-FNR == 1 { own_specs = "Rattle·" crate "·specs.specs." }
-
-(kind == "specs" || kind == "proofs") && FNR == 1 {
+FNR == 1 {
+    own_crate = "Rattle." crate "."
     file = substr(FILENAME, length("crates/" crate "/") + 1)
-    unit = file
-    sub(/^.*\//, "", unit)
-    sub(/\.antt$/, "", unit)
+    states_laws = (kind == "specs" || kind == "proofs") && is_of_laws(file)
+}
+
+states_laws && FNR == 1 {
+    unit = unit_of(file)
     inside = ""
     in_data = depth = 0
 }
 
-(kind == "specs" || kind == "proofs" || kind == "source") && /^(ghost )?use / {
-    take_use($0, kind == "specs" ? unit : "code")
-    if (kind == "specs") next
+states_laws && /^use / {
+    take_use($0, unit)
+    next
 }
 
-kind == "source" || kind == "proofs" { take_whole($0) }
+states_laws { read_line($0) }
 
-kind == "specs" { read_line($0) }
+!states_laws && (kind == "proofs" || kind == "source") {
+    if (/^ *(ghost )?use /) take_use($0, "code")
+    take_whole($0)
+}
 
 # Does the declaration `from` see one that a version other than `version` changes (0: that any changes)? Returns it, or "". `sees_own`
 # says then whether it sees one that `version` changes.
@@ -125,10 +160,10 @@ function sees_other(from, version,    todo, n, i, k, word, name, of, seen, found
             else found = todo[i]
         }
         of = todo[i]
-        sub(/\..*$/, "", of)
+        sub(/\.[^.]*$/, "", of)
         for (k = words_of(text_of[todo[i]], word); k > 0; k--) {
             name = word[k]
-            if (index(name, "·specs.specs.")) sub(/^.*specs\.specs\./, "", name)
+            if (whole_name(name) != "") name = whole_name(name)
             else if ((of, name) in means) name = means[of, name]
             else continue
             if (name in seen) continue
