@@ -76,6 +76,7 @@ pub(crate) fn flushed(out: &impl Print, err: &impl Print, text: &[u8], output: O
 }
 
 // The text is written where the longest line has no room behind it.
+#[tactic(auto, unfolding(crate::specs::Output::waiting))]
 pub(crate) fn with_room(out: &impl Print, err: &impl Print, text: &[u8], output: Output) -> Output
     requires { output.at ≤ length text.now }
     ensures { result.at ≡ waiting (length text.now) output.at }
