@@ -33,6 +33,8 @@ struct Reader {
     // ROOM + 1 where the line is longer than its room
     length: usize,
     tally: Tally,
+    // whether the last read moved a byte: none does at the file's end
+    more: bool,
 }
 
 fn new_reader() -> Reader {
@@ -47,6 +49,7 @@ fn new_reader() -> Reader {
         line: line,
         length: 0,
         tally: tally,
+        more: true,
     }
 }
 
@@ -95,23 +98,33 @@ fn with_bytes(rt: &impl Print, mut reader: Reader, bytes: &[u8], marks: &mut [u8
     reader
 }
 
-// The lines of the file. A proved loop has to end, and nothing says that a file does. So the loop counts its turns, up to a number
-// that no run uses up.
-fn read_all(rt: &impl Print, file: &mut impl Read, marks: &mut [u8]) -> io::Result<Tally> {
-    let mut reader = new_reader();
+fn read_some(
+    rt: &impl Print,
+    reader: Reader,
+    file: &mut impl Read,
+    marks: &mut [u8],
+) -> io::Result<Reader> {
     let mut buffer = [0u8; 512];
+    let n = file.read(&mut buffer)?;
+    let mut reader = with_bytes(rt, reader, &buffer[..n], marks);
+    reader.more = 0 < n;
+    Ok(reader)
+}
+
+// A proved loop has to end, and nothing says that a file does. So the loop counts its turns, up to a number that no run uses up.
+fn read_all(rt: &impl Print, file: &mut impl Read, marks: &mut [u8]) -> io::Result<Reader> {
+    let mut reader = new_reader();
     for _ in 0..u64::MAX {
-        let n = file.read(&mut buffer)?;
-        if n == 0 {
+        if !reader.more {
             break;
         }
-        reader = with_bytes(rt, reader, &buffer[..n], marks);
+        reader = read_some(rt, reader, file, marks)?;
     }
     // the last line of the file may lack its line end
     if 0 < reader.length {
         reader = line_ended(rt, reader, marks);
     }
-    Ok(reader.tally)
+    Ok(reader)
 }
 
 // A member's rows must be of all its writable addresses.
@@ -158,7 +171,7 @@ fn compare_file(rt: &(impl Files + Print), err: &impl Print, path: &[u8]) {
     };
     let mut marks = [0u8; addresses::MARKS];
     match read_all(rt, &mut file, &mut marks) {
-        Ok(tally) => finish(rt, tally, &marks),
+        Ok(reader) => finish(rt, reader.tally, &marks),
         Err(error) => report::failed(err, b"vectors: cannot read ", path, &error),
     }
 }
