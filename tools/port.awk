@@ -1,31 +1,37 @@
-# Rewrites the LLVM module that rattle makes of capi for x86-64 into one for another target. Arguments: probe, what clang makes of
+# Rewrites the LLVM module that rattle makes of capi_c for x86-64 into one for another target. Arguments: probe, what clang makes of
 # include/lp586x.h on the target (its data layout, its triple, a declaration of each function); optsize, 1 for code that is to be small.
 # What changes is the data layout, the triple, the processor's name, and the entry of an exported function, which becomes the one that the
 # header declares: where size_t has 32 bits, the length of a slice comes in with 32 and is widened. Inside it has 64, as it was proved.
-# That the rest means the same on any target rests on its form, so a line of another form is refused: addresses are counted in bytes
-# (getelementptr of i8 alone), no pointer is made of a number or the other way round, what is copied or filled has a constant length, there is no
-# global variable and no assembly, and only the functions of the module and these two of LLVM are called.
+# That the rest means the same on any target that is little-endian and has 64-bit numbers at multiples of 8 (tools/port asks for that) rests on
+# its form, so a line of another form is refused: addresses are counted in bytes (getelementptr of i8 alone), no pointer is made of a number or
+# the other way round, what is copied or filled has a constant length, there is no global variable but constant bytes and no assembly,
+# two values that go together are two numbers, and only the functions of the module and these two of LLVM are called.
 BEGIN {
     TYPE = "(i1|i8|i16|i32|i64)"
     VALUE = "(%|N|true|false)"
+    PAIR = "\\{ " TYPE ", " TYPE " \\}"
     AT = "ptr %, align N"
     know("alloca (" TYPE "|ptr|\\[N x i8\\]), align N")
     know("getelementptr (inbounds nuw )?i8, ptr %, i64 (%|N)")
     know("load (" TYPE "|ptr), " AT "(, !range !N)?(, !noundef !N)?")
-    know("store (" TYPE " " VALUE "|ptr %), " AT)
+    know("load " PAIR ", " AT)
+    know("extractvalue " PAIR " %, N")
+    know("store (" TYPE " " VALUE "|ptr (%|@S)), " AT)
     know("(add|sub|mul)( nuw)? " TYPE " " VALUE ", " VALUE)
     know("(udiv|urem|and|or|xor|shl|lshr) " TYPE " " VALUE ", " VALUE)
     know("icmp (eq|ne|ult|ule|ugt|uge) " TYPE " " VALUE ", " VALUE)
+    know("icmp (eq|ne) ptr %, null")
     know("(zext|trunc|trunc nuw) " TYPE " " VALUE " to " TYPE)
-    know("call (void|" TYPE ") @F\\(((" TYPE " " VALUE "|ptr %)(, )?)*\\)")
+    know("call (void|" TYPE "|" PAIR ") @F\\(((" TYPE " " VALUE "|ptr %)(, )?)*\\)")
     know("call void @llvm\\.memmove\\.p0\\.p0\\.i64\\(ptr %, ptr %, i64 N, i1 false\\)")
     know("call void @llvm\\.memset\\.p0\\.i64\\(ptr %, i8 " VALUE ", i64 N, i1 false\\)")
     know("br (label %|i1 %, label %, label %)")
     know("switch " TYPE " %, label % \\[")
     know(TYPE " (N|true|false), label %")
     know("\\]")
-    know("ret (void|" TYPE " " VALUE ")")
+    know("ret (void|" TYPE " " VALUE "|" PAIR " %)")
     know("unreachable")
+    internal = "^define internal (noundef (zeroext )?)?(void|" TYPE "|" PAIR ") @\"[^\"]*\"\\(((ptr|" TYPE ")( noundef)?( zeroext)? %a[0-9]+(, )?)*\\) #0 \\{$"
     read_probe()
 }
 
@@ -63,6 +69,7 @@ function form_of(line) {
     sub(/^%[A-Za-z0-9_.]+ = /, "", line)
     gsub(/%[A-Za-z0-9_.]+/, "%", line)
     gsub(/@"[^"]*"/, "@F", line)
+    gsub(/@static\.[0-9]+/, "@S", line)
     gsub(/ -?[0-9]+/, " N", line)
     gsub(/\[[0-9]+ x/, "[N x", line)
     gsub(/![0-9]+/, "!N", line)
@@ -110,12 +117,15 @@ function print_entry(name, count, widened,    i) {
 /^;/ || /^$/ { next }
 /^source_filename = "rattle"$/ { print; next }
 /^target (datalayout|triple) = / { next }
-/^define internal (noundef (zeroext )?)?(void|i1|i8|i16|i32|i64) @"[^"]*"\(((ptr|i1|i8|i16|i32|i64) noundef (zeroext )?%a[0-9]+(, )?)*\) #0 \{$/ { print; next }
+/^@static\.[0-9]+ = private unnamed_addr constant \[[0-9]+ x i8\] (zeroinitializer|c"[^"]*"), align [0-9]+$/ { print; next }
+/^define internal / && $0 ~ internal { print; next }
 /^define / { entry(); next }
 /^declare void @llvm\.memmove\.p0\.p0\.i64\(/ { print; next }
 /^declare void @llvm\.memset\.p0\.i64\(/ { print; next }
-/^attributes #0 = \{ nounwind "probe-stack"="inline-asm" "target-cpu"="x86-64" \}$/ {
-    print "attributes #0 = { " (optsize ? "optsize " : "") "nounwind \"probe-stack\"=\"inline-asm\" }"
+/^attributes #0 = \{ nounwind "probe-stack"="inline-asm" "stack-probe-size"="[0-9]+" "target-cpu"="x86-64-v2" \}$/ {
+    sub(/ "target-cpu"="x86-64-v2"/, "")
+    if (optsize) sub(/nounwind/, "optsize nounwind")
+    print
     next
 }
 /^attributes #[12] = \{ nocallback nofree nounwind willreturn memory\(argmem: (read)?write\) \}$/ { print; next }
