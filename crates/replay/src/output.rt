@@ -25,6 +25,14 @@ fn again(error: &Error) -> bool {
     }
 }
 
+// A write has failed, or took no byte.
+fn failing(err: &impl Print, error: &Error) -> usize
+    ensures { result ≡ 0 }
+{
+    console::fail(err, b"replay: cannot write standard output", error);
+    0
+}
+
 // How many of the bytes a write took; 0 where it failed, which a line says. A proved loop has to end: this one counts its turns, up to
 // a number that no run uses up.
 fn write_some(out: &impl Print, err: &impl Print, bytes: &[u8]) -> usize
@@ -32,11 +40,11 @@ fn write_some(out: &impl Print, err: &impl Print, bytes: &[u8]) -> usize
 {
     for _ in 0..u64::MAX {
         match out.write_some(bytes) {
+            Ok(0) => return failing(err, &Error::from(ErrorKind::WriteZero)),
             Ok(took) => return took,
             Err(error) => {
                 if !again(&error) {
-                    console::fail(err, b"replay: cannot write standard output", &error);
-                    return 0;
+                    return failing(err, &error);
                 }
             }
         }
