@@ -22,11 +22,11 @@
  * of them changes what another one is lent: on one record one call at a time, on different records side by side. lp586x_clear and
  * lp586x_faults only read the record, so that any number of these two may run side by side on one.
  *
- * Targets: rt's own archive is for x86-64 with the System V calling convention, and tools/port compiles the same module for other processors,
- * with a size_t of 64 or of 32 bits. The promises are proved of the source, on a machine with 64-bit addresses; that the code for a processor
- * keeps them is tested: README.md, "Targets", says for which, and what a program must supply. Byte order is no matter: numbers are taken
- * apart byte by byte. A uint32_t that is lent is aligned as C has it, bytes need not be. Nothing that is lent may stand at address 0, which
- * is the null pointer on a controller too.
+ * Targets: rt's own archive is for x86-64 with the System V calling convention, and tools/port compiles the same module for other
+ * little-endian processors, with a size_t of 64 or of 32 bits. The promises are proved of the source, on a machine with 64-bit addresses;
+ * that the code for a processor keeps them is tested: README.md, "Targets", says for which, and what a program must supply. Records, chips
+ * and lists are the same bytes on each of them. A uint32_t that is lent is aligned as C has it, bytes need not be. Nothing that is lent may
+ * stand at address 0, which is the null pointer on a controller too.
  *
  * Bytes of a record: member, bus, pins, marks, 908 settings, 908 of the chip as the host believes it (the chip image). Of a chip: member,
  * bus, pins, 908 registers. They are the driver's to change. They are sound if lp586x_open takes the member, bus and pins, and reserved
