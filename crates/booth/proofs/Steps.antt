@@ -7,7 +7,7 @@ use Rattle.map.specs.declared.refusals.Numbers.{Numbers}
 use Rattle.history.specs.Step.{call_numbers}
 use Rattle.rounds.specs.declared.Present.{Present}
 use Rattle.rounds.specs.Round.{present_by}
-use Rattle.rounds.specs.DealLaws.{at_last}
+use Rattle.rounds.proofs.DealLaws.{at_last}
 use Rattle.bus.specs.declared.Panels.{Panels}
 use Rattle.bus.specs.declared.BusRequest.TheVariants.{Round}
 use Rattle.bus.specs.declared.BusStepped.{BusStepped}

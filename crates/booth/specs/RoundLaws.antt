@@ -18,9 +18,9 @@ use Rattle.update.specs.declared.ListAnswer.{ListAnswer}
 use Rattle.update.specs.declared.ListAnswer.TheVariants.{Listed, Refused}
 use Rattle.update.specs.Update.{is_listed, list_numbers}
 use Rattle.rounds.specs.Round.{count_all, bytes_all, round_size, least_limit, most_limit, every_place, round_parts, present_sound, present_placed, round_answer, present_at, present_by}
-use Rattle.rounds.specs.ListLaws.{few_parts}
-use Rattle.rounds.specs.AcceptLaws.{round_most, round_most_lem}
-use Rattle.rounds.specs.DealLaws.{round_bytes, Takes, round_takes, parts_ready}
+use Rattle.rounds.proofs.ListLaws.{few_parts}
+use Rattle.rounds.proofs.AcceptLaws.{round_most, round_most_lem}
+use Rattle.rounds.proofs.DealLaws.{round_bytes, Takes, round_takes, parts_ready}
 use Rattle.bus.specs.Bus.{plain, place_of, world_at, panels_of, hosts_of, bus_step, stepped_of}
 use Rattle.script.specs.declared.command.Lent as lents
 use Rattle.script.specs.declared.command.Lent.TheVariants.{Nothing, Word, Room}

@@ -10,7 +10,7 @@ use lib.ListN.{length}
 use Rattle.calls.specs.declared.Request.{Request}
 use Rattle.rounds.specs.declared.Present.{Present}
 use Rattle.rounds.specs.Round.{round_buffer, at_place, present_at}
-use Rattle.rounds.specs.DealLaws.{at_last}
+use Rattle.rounds.proofs.DealLaws.{at_last}
 use Rattle.history.specs.declared.World.{World}
 use Rattle.history.specs.declared.CallAnswer as answers
 use Rattle.history.specs.declared.Stepped.{Stepped}

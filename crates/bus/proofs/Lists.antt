@@ -17,8 +17,8 @@ use Rattle.rounds.specs.declared.Present.{Present}
 use Rattle.rounds.specs.declared.Records.{Records}
 use Rattle.rounds.specs.declared.Rounded.{Rounded}
 use Rattle.rounds.specs.Round.{round_list, round_parts, round_answer, round_record, round_buffer, round_of, present_at, record_at, takes, part_at, count_all, bytes_all}
-use Rattle.rounds.specs.ListLaws.{round_length}
-use Rattle.rounds.specs.DealLaws.{round_takes}
+use Rattle.rounds.proofs.ListLaws.{round_length}
+use Rattle.rounds.proofs.DealLaws.{round_takes}
 use Rattle.rounds.specs.AbsentLaws.{parts_same, answer_same, buffer_same, refused_kept}
 use Rattle.history.specs.declared.World.{World}
 use Rattle.history.specs.Step.{list_in, Within}

@@ -1,11 +1,7 @@
 pub mod BusLists
 pub mod Places
 pub mod HearLaws
-pub mod BridgeLaws
-pub mod UsedLaws
 pub mod BusDemand
-pub mod BusTheorem
 pub mod Finishing
 pub mod SettlingLaws
-pub mod FinishingLaws
 pub mod BusExamples

@@ -14,11 +14,11 @@ use Rattle.burst.specs.Burst.{Burst}
 use Rattle.plan.specs.Lists.{All, sets_outside, sets_inside}
 use Rattle.plan.specs.Plan.{Write, plan}
 use Rattle.plan.specs.Writes.{AllGood, Needed}
-use Rattle.plan.specs.PlanLaws.{plan_needed}
+use Rattle.plan.proofs.PlanLaws.{plan_needed}
 use Rattle.plan.specs.Update.{value_at, marks_for, on_by, View, same_at, seen, data_of, enable_write, enable, update_by, update_for, store_all, Layout}
-use Rattle.plan.specs.UpdateLaws.{on_same, one_is, zero_is, dirty_differs, data_length, data_at, plan_ok, update_on, update_off}
+use Rattle.plan.proofs.UpdateLaws.{on_same, one_is, zero_is, dirty_differs, data_length, data_at, plan_ok, update_on, update_off}
 use Rattle.plan.specs.Portion.{Cut}
-use Rattle.plan.specs.PortionLaws.{cut_at}
+use Rattle.plan.proofs.PortionLaws.{cut_at}
 use Rattle.bus_demand.specs.Finishing.{differing}
 
 -- ---- How many differ

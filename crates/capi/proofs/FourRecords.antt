@@ -20,8 +20,8 @@ use Rattle.rounds.specs.declared.Headers.{Headers}
 use Rattle.rounds.specs.declared.Present.{Present}
 use Rattle.rounds.specs.declared.Records.{Records}
 use Rattle.rounds.specs.Round.{at_place, present_at, record_at, takes, part_at, count_all, bytes_all, round_size, least_limit, most_limit, every_place, present_sound, present_placed, round_parts, round_answer, round_buffer, round_record, round_of, present_by}
-use Rattle.rounds.specs.ListLaws.{few_parts}
-use Rattle.rounds.specs.DealLaws.{round_takes, round_bytes, parts_ready}
+use Rattle.rounds.proofs.ListLaws.{few_parts}
+use Rattle.rounds.proofs.DealLaws.{round_takes, round_bytes, parts_ready}
 use Rattle.rounds.specs.Dealing.{records_of, ImagesAfter}
 use Rattle.capi.specs.Capi.{header_in, marks_at, settings_at, image_at, record_in, header_bytes, record_bytes, record_size, put_image, place_at, record_from, records_in, headers_in, records_bytes, kept_at, kept_last, kept_all, round_sized, round_answer_by, Fits}
 use Rattle.capi.specs.CapiLaws.{Whole, record_length, records_round}

@@ -24,7 +24,7 @@ use Rattle.update.specs.declared.ListAnswer.TheVariants.{Listed, Short, Refused}
 use Rattle.update.specs.Update.{is_listed, list_number, list_size, Sending, send_answer, send_of, send_buffer, writes_of, updating, update_answer, update_stored, update_of, update_buffer, command_write, command, resetting, reset_answer}
 use Rattle.update.specs.Pieces.{UpdateSent}
 use Rattle.update.specs.SendLaws.{answer_of}
-use Rattle.update.specs.StoredLaws.{stored_is}
+use Rattle.update.proofs.StoredLaws.{stored_is}
 use Rattle.update.specs.BoundLaws.{bus_most, writes_few, size_most}
 use Rattle.capi.specs.Capi.{header_in, marks_at, settings_in, image_at, image_in, record_in, record_bytes, record_size, list_answer, list_bytes, buffer_after, value_after, n_after, t_after, stored_after, needed_after, Fits, place_numbers}
 use Rattle.capi.specs.Calls.{update_call, update_stores, update_needed, transaction_call}

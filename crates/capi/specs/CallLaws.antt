@@ -16,16 +16,16 @@ use Rattle.host.specs.declared.Record.{Record}
 use Rattle.host.specs.declared.Changed.{Changed}
 use Rattle.calls.specs.declared.Setting.{Setting}
 use Rattle.host.specs.Record.{locked, open_of, setting_of, power_lost_of, lock_of}
-use Rattle.host.specs.SettingLaws.{Sets, setting_sets, power_refuses, lock_locks, lock_refuses}
+use Rattle.host.proofs.SettingLaws.{Sets, setting_sets, power_refuses, lock_locks, lock_refuses}
 use Rattle.update.specs.declared.ListAnswer.{ListAnswer}
 use Rattle.update.specs.declared.ListAnswer.TheVariants.{Listed, Short, Refused}
 use Rattle.update.specs.declared.Sent.{Sent}
 use Rattle.update.specs.Update.{is_listed, list_number, Sending, send_answer, send_of, send_buffer, updating, update_stored, clear_of}
-use Rattle.update.specs.StoredLaws.{stored_is}
+use Rattle.update.proofs.StoredLaws.{stored_is}
 use Rattle.update.specs.SendLaws.{answered, host_kept, buffer_kept, answer_of, clear_leaves}
 use Rattle.faults.specs.declared.Answer as faults
 use Rattle.faults.specs.Faults.{answer_numbers, faults_answer, faults_result}
-use Rattle.faults.specs.FaultLaws.{refuses}
+use Rattle.faults.proofs.FaultLaws.{refuses}
 use Rattle.chip.specs.declared.Chip.{Chip}
 use Rattle.chip.specs.Chip.{at_reset_of, feed_of}
 use Rattle.capi.specs.Capi.{marks_at, record_in, record_bytes, chip_bytes, record_size, record_sized, chip_sized, when_sized, Outcome, setting_number, setting_bytes, setting_outcome, chip_number, chip_after, chip_outcome, list_answer, list_bytes, buffer_after, value_after, n_after, t_after, stored_after, ListOutcome, list_outcome, faults_answer_by, faults_outcome}

@@ -18,8 +18,8 @@ use Rattle.rounds.specs.declared.Present.{Present}
 use Rattle.rounds.specs.declared.Records.{Records}
 use Rattle.rounds.specs.declared.Rounded.{Rounded}
 use Rattle.rounds.specs.Round.{least_limit, most_limit, present_at, record_at, round_answer, round_buffer, round_of, present_by}
-use Rattle.rounds.specs.DealLaws.{round_takes}
-use Rattle.rounds.specs.AcceptLaws.{round_most, round_accepts}
+use Rattle.rounds.proofs.DealLaws.{round_takes}
+use Rattle.rounds.proofs.AcceptLaws.{round_most, round_accepts}
 use Rattle.rounds.specs.AbsentLaws.{refused_kept, refused_buffer}
 use Rattle.capi.specs.Capi.{record_in, record_bytes, record_size, place_at, records_in, records_bytes, round_sized, round_answer_by, value_after, n_after, t_after, ListOutcome, round_outcome}
 use Rattle.capi.specs.CapiLaws.{Whole, record_begins, record_back, record_length, round_sized_lem, zero_listed, list_keeps}

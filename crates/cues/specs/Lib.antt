@@ -1,4 +1,2 @@
 pub mod CueOrder
-pub mod CueChanges
-pub mod CueLaws
 pub mod CueExamples

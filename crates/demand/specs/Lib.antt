@@ -1,12 +1,5 @@
 pub mod Events
 pub mod Demand
 pub mod MachineLaws
-pub mod WorldLaws
-pub mod RivalLaws
-pub mod Theorem
 pub mod Recovery
-pub mod RecoveryLaws
-pub mod Lamps
 pub mod Clear
-pub mod ClearLaws
-pub mod RecoveryExamples

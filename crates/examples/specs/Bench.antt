@@ -18,7 +18,7 @@ use Rattle.calls.specs.declared.Setting.TheVariants.{Register, Lamp}
 use Rattle.calls.specs.declared.Request.TheVariants.{Set, Update}
 use Rattle.host.specs.declared.Record.{Record}
 use Rattle.host.specs.Record.{header_of, record_of, free, locked, is_trim, is_locked, lock_keeps, may_write, marks_ok, sound_of, when_sound, opened, open_host, open_of, register_answer, when_dot, lamp_answer, arguments_answer, setting_answer, put_setting, changed_to, setting_of, lamp_of}
-use Rattle.host.specs.SoundLaws.{is_sound, open_sound}
+use Rattle.host.proofs.SoundLaws.{is_sound, open_sound}
 use Rattle.update.specs.Update.{list_size, over, Sending, send_answer, send_buffer, writes_of, resetting, reset_buffer, clearing, clear_buffer}
 use Rattle.update.specs.SendLaws.{send_listed}
 use Rattle.history.specs.Step.{step_of}

@@ -23,7 +23,7 @@ use Rattle.map.specs.ListLaws.{filled_none, filled_more, filled_length, filled_i
 use Rattle.dots.specs.Dots.{wide_of, level_of}
 use Rattle.host.specs.declared.Record.{Record}
 use Rattle.faults.specs.Faults.{fault_byte, bit_set, is_set, tested_from, is_dim, has_dot, lamp_reading, reading, readings, some_below, is_faulty, some_faulty, opens_agree, shorts_agree, faults_checked, answer_numbers, answered, faults_answer, faults_result}
-use Rattle.faults.specs.FaultLaws.{Taken, faults_taken}
+use Rattle.faults.proofs.FaultLaws.{Taken, faults_taken}
 use Rattle.faults.specs.OldReadings.{by_bits, bits_reading}
 use Rattle.faults.specs.Passes.{ReadTo, unless_dim, tested_at}
 use Rattle.faults.specs.declared.Answer.{Answer}

@@ -23,7 +23,7 @@ use Rattle.history.specs.declared.Stepped.{Stepped}
 use Rattle.history.specs.declared.Ledger.{Ledger}
 use Rattle.history.specs.Step.{Step, leaving, change_step, step_of}
 use Rattle.history.specs.Ledger.{entry, told_of, opened_ledger, entered_of}
-use Rattle.history.specs.LedgerLaws.{free_out, setting_enters}
+use Rattle.history.proofs.LedgerLaws.{free_out, setting_enters}
 
 -- ---- steps
 

@@ -1,2 +1,3 @@
 pub mod FedLists
 pub mod Calls
+pub mod LedgerLaws

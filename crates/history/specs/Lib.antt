@@ -1,5 +1,4 @@
 pub mod Ledger
 pub mod Step
 pub mod History
-pub mod LedgerLaws
 pub mod HistoryExamples

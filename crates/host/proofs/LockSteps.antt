@@ -14,7 +14,7 @@ use Rattle.map.specs.ImageLaws.{image_ok_lem}
 use Rattle.host.specs.declared.Header.{Header}
 use Rattle.host.specs.declared.Record.{Record}
 use Rattle.host.specs.Record.{record_of, sound_of, when_sound, is_trim, is_locked, lock_keeps, same_trims, marks_ok, is_on, is_lockable, lock_answer}
-use Rattle.host.specs.SoundLaws.{sound_is}
+use Rattle.host.proofs.SoundLaws.{sound_is}
 
 -- ---- addresses
 

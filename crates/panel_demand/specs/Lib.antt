@@ -1,5 +1,3 @@
 pub mod PanelHistory
 pub mod PanelLaws
-pub mod PanelTheorem
 pub mod PanelRecovery
-pub mod PanelRecoveryLaws

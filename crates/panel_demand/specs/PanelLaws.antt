@@ -15,13 +15,13 @@ use Rattle.host.specs.Record.{setting_numbers, changed_to, setting_of, power_los
 use Rattle.update.specs.declared.ListAnswer.{ListAnswer}
 use Rattle.update.specs.declared.ListAnswer.TheVariants.{Listed, Short, Refused}
 use Rattle.update.specs.Update.{list_number, Sending, send_of, send_buffer, updating, update_of, resetting}
-use Rattle.update.specs.StoredLaws.{update_number}
+use Rattle.update.proofs.StoredLaws.{update_number}
 use Rattle.chip.specs.Chip.{feed_of}
 use Rattle.history.specs.declared.World.{World}
 use Rattle.history.specs.Ledger.{Told, told_of, entries}
 use Rattle.history.specs.Step.{call_numbers, answers_locked, list_in, fed_by, send_step, step_of}
 use Rattle.demand.specs.Events.{run, told}
-use Rattle.demand.specs.WorldLaws.{Holds, event_holds}
+use Rattle.demand.proofs.WorldLaws.{Holds, event_holds}
 use Rattle.capi.specs.Capi.{record_bytes, chip_bytes, value_after, n_after, t_after, Outcome, ListOutcome}
 use Rattle.capi.specs.Calls.{send_call, update_stores, update_needed, chip_feed_call}
 use Rattle.capi.specs.CapiLaws.{zero_listed}

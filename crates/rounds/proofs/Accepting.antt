@@ -16,7 +16,7 @@ use Rattle.burst.specs.Burst.{Burst}
 use Rattle.plan.specs.Update.{store_all}
 use Rattle.host.specs.declared.Record.{Record}
 use Rattle.host.specs.Record.{record_of}
-use Rattle.host.specs.SoundLaws.{sound_is}
+use Rattle.host.proofs.SoundLaws.{sound_is}
 use Rattle.writes.specs.WrittenLaws.{sets_front}
 use Rattle.update.specs.declared.ListAnswer.{ListAnswer}
 use Rattle.update.specs.declared.ListAnswer.TheVariants.{Listed, Refused}
@@ -27,8 +27,8 @@ use Rattle.rounds.specs.declared.Present.{Present}
 use Rattle.rounds.specs.declared.Records.{Records}
 use Rattle.rounds.specs.declared.Rounded.{Rounded}
 use Rattle.rounds.specs.Round.{count_all, bytes_all, round_size, round_list, part_at, least_limit, most_limit, every_place, takes, round_parts, present_sound, present_placed, round_answer, round_record, round_buffer, round_of, at_place, present_at, record_at, round_room, marked, present_by}
-use Rattle.rounds.specs.ListLaws.{round_length}
-use Rattle.rounds.specs.DealLaws.{Takes, round_takes, part_is}
+use Rattle.rounds.proofs.ListLaws.{round_length}
+use Rattle.rounds.proofs.DealLaws.{Takes, round_takes, part_is}
 use Rattle.rounds.specs.AbsentLaws.{refused_kept, refused_buffer}
 use Rattle.rounds.specs.Dealing.{AllWait, AllPlaced, DealtAre, dealt_total, round_refusal, RoundPut, ImagesAfter, records_of}
 use Rattle.rounds.proofs.Joining.{bytes_are}

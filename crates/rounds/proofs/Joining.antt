@@ -9,7 +9,7 @@ use lib.ListN.{length, length-append, length-map}
 use lib.Seq.{sets}
 use Rattle.burst.specs.Burst.{Burst, size_bytes, sizes_bytes, sum, joined, transaction_of, list_of, bus_bytes}
 use Rattle.plan.specs.Portion.{portion}
-use Rattle.plan.specs.PortionLaws.{portion_again}
+use Rattle.plan.proofs.PortionLaws.{portion_again}
 use Rattle.plan.specs.Update.{store_all}
 use Rattle.host.specs.declared.Header.{Header}
 use Rattle.host.specs.declared.Record.{Record}
@@ -20,8 +20,8 @@ use Rattle.writes.specs.WrittenLaws.{sets_append, sets_comm, sizes_append, joine
 use Rattle.update.specs.Update.{writes_of}
 use Rattle.rounds.specs.declared.dealing.Dealt.{Dealt}
 use Rattle.rounds.specs.Round.{bytes_all, count_all, pinned, round_list, part_at, waiting, round_parts, round_room}
-use Rattle.rounds.specs.ListLaws.{pinned_count, pinned_sum}
-use Rattle.rounds.specs.DealLaws.{part_is, four_parts}
+use Rattle.rounds.proofs.ListLaws.{pinned_count, pinned_sum}
+use Rattle.rounds.proofs.DealLaws.{part_is, four_parts}
 use Rattle.rounds.specs.Dealing.{waiting_of, Waits, AllWait, AllPlaced, DealtAre, put_part, part_transactions, RoundPut}
 use Rattle.rounds.proofs.Shares.{absent_part, present_part}
 

@@ -4,3 +4,6 @@ pub mod Portions
 pub mod Putting
 pub mod Joining
 pub mod Accepting
+pub mod ListLaws
+pub mod AcceptLaws
+pub mod DealLaws

@@ -13,11 +13,11 @@ use Rattle.plan.specs.Plan.{Write, cost}
 use Rattle.plan.specs.WriteLaws.{cost_append}
 use Rattle.plan.specs.NextLaws.{one}
 use Rattle.plan.specs.Update.{data_of}
-use Rattle.plan.specs.UpdateLaws.{data_length}
+use Rattle.plan.proofs.UpdateLaws.{data_length}
 use Rattle.plan.specs.Portion.{cut_to, portion}
-use Rattle.plan.specs.PortionLaws.{portion_whole, portion_cut, portion_none, portion_empty}
+use Rattle.plan.proofs.PortionLaws.{portion_whole, portion_cut, portion_none, portion_empty}
 use Rattle.host.specs.declared.Record.{Record}
-use Rattle.host.specs.SoundLaws.{Sound}
+use Rattle.host.proofs.SoundLaws.{Sound}
 use Rattle.writes.specs.WrittenLaws.{writes_cost}
 use Rattle.update.specs.Update.{writes_of}
 use Rattle.update.specs.PieceLaws.{writes_are, pending_inside, pending_some}

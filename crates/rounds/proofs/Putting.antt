@@ -13,7 +13,7 @@ use Rattle.plan.specs.NextLaws.{one}
 use Rattle.plan.specs.Update.{data_of, store_all}
 use Rattle.plan.specs.Portion.{portion}
 use Rattle.host.specs.declared.Record.{Record}
-use Rattle.host.specs.SoundLaws.{Sound}
+use Rattle.host.proofs.SoundLaws.{Sound}
 use Rattle.writes.specs.WrittenLaws.{lengths_are}
 use Rattle.writes.specs.PutLaws.{Put, put_start, put_more, Taken, taken_start, taken_more}
 use Rattle.update.specs.Update.{writes_of}

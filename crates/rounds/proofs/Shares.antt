@@ -8,11 +8,11 @@ use native.Mathlib.Omega.{arith}
 use lib.ListN.{length}
 use Rattle.burst.specs.Burst.{Burst, bus_bytes}
 use Rattle.plan.specs.Portion.{portion}
-use Rattle.plan.specs.PortionLaws.{portion_empty, portion_bytes}
+use Rattle.plan.proofs.PortionLaws.{portion_empty, portion_bytes}
 use Rattle.host.specs.declared.Header.{Header}
 use Rattle.host.specs.declared.Record.{Record}
 use Rattle.host.specs.Record.{record_of}
-use Rattle.host.specs.SoundLaws.{Sound}
+use Rattle.host.proofs.SoundLaws.{Sound}
 use Rattle.writes.specs.declared.scan.Matrix.{Matrix}
 use Rattle.writes.specs.Marks.{matrix_of}
 use Rattle.update.specs.Update.{writes_of}

@@ -12,7 +12,7 @@ use Rattle.plan.specs.Update.{store_all}
 use Rattle.host.specs.declared.Header.{Header}
 use Rattle.host.specs.declared.Record.{Record}
 use Rattle.host.specs.Record.{record_of}
-use Rattle.host.specs.SoundLaws.{Sound}
+use Rattle.host.proofs.SoundLaws.{Sound}
 use Rattle.update.specs.Update.{writes_of}
 use Rattle.rounds.specs.declared.Headers.{Headers}
 use Rattle.rounds.specs.declared.dealing.Firsts.{Firsts}

@@ -13,7 +13,7 @@ use Rattle.plan.specs.Update.{store_all}
 use Rattle.host.specs.declared.Header.{Header}
 use Rattle.host.specs.declared.Record.{Record}
 use Rattle.host.specs.Record.{record_of, sound_of}
-use Rattle.host.specs.SoundLaws.{sound_is}
+use Rattle.host.proofs.SoundLaws.{sound_is}
 use Rattle.writes.specs.Stored.{AllWithin}
 use Rattle.update.specs.declared.ListAnswer.{ListAnswer}
 use Rattle.update.specs.declared.ListAnswer.TheVariants.{Listed}
@@ -21,7 +21,7 @@ use Rattle.update.specs.Update.{is_listed, writes_of, updating, update_answer, u
 use Rattle.update.specs.Pieces.{UpdateSent}
 use Rattle.update.specs.SendLaws.{answered, list_is, host_is, host_kept}
 use Rattle.update.specs.BoundLaws.{update_sendable, update_named, update_within}
-use Rattle.update.specs.StoredLaws.{stored_data}
+use Rattle.update.proofs.StoredLaws.{stored_data}
 
 module _ (answer : ListAnswer) (header : Header) (settings image lent buffer : List ℕ) (u : UpdateSent answer header settings image lent buffer) where
   abbrev r : Record

@@ -17,7 +17,7 @@ use Rattle.plan.specs.Update.{value_at, on_by, data_of}
 use Rattle.host.specs.declared.Header.{Header}
 use Rattle.host.specs.declared.Record.{Record}
 use Rattle.host.specs.Record.{record_of, sound_of}
-use Rattle.host.specs.SoundLaws.{Sound, sound_is}
+use Rattle.host.proofs.SoundLaws.{Sound, sound_is}
 use Rattle.writes.specs.declared.scan.Matrix.{Matrix}
 use Rattle.writes.specs.Marks.{chip_view, marks_of, matrix_of}
 use Rattle.writes.specs.Found.{Small, Counted}

@@ -3,7 +3,6 @@ pub mod Pieces
 pub mod SendLaws
 pub mod UpdateLaws
 pub mod BoundLaws
-pub mod StoredLaws
 pub mod LockedLaws
 pub mod UpdateExamples
 pub mod PieceLaws

@@ -12,14 +12,14 @@ use Rattle.map.specs.WritableLaws.{carries_writable}
 use Rattle.map.specs.ImageLaws.{Image}
 use Rattle.burst.specs.Burst.{Burst, bus_bytes}
 use Rattle.plan.specs.Plan.{Write}
-use Rattle.plan.specs.PlanLaws.{plan_same}
+use Rattle.plan.proofs.PlanLaws.{plan_same}
 use Rattle.plan.specs.Update.{value_at, mark_at, marks_for, on_by, data_of, update_by, update_for}
-use Rattle.plan.specs.LockLaws.{LockedAt, locked_bytes, locked_least, locked_count}
+use Rattle.plan.proofs.LockLaws.{LockedAt, locked_bytes, locked_least, locked_count}
 use Rattle.host.specs.declared.Record.{Record}
 use Rattle.host.specs.Record.{record_of, free, locked, marked_as, is_trim, is_locked, lock_keeps, may_write}
 use Rattle.host.specs.RecordLaws.{free_write}
 use Rattle.host.specs.LockLaws.{SameTrims}
-use Rattle.host.specs.SoundLaws.{Sound}
+use Rattle.host.proofs.SoundLaws.{Sound}
 use Rattle.writes.specs.Marks.{chip_view, marks_of}
 use Rattle.update.specs.Update.{writes_of}
 use Rattle.update.specs.UpdateLaws.{image_layout}

@@ -16,14 +16,14 @@ use Rattle.burst.specs.Burst.{Burst}
 use Rattle.plan.specs.Lists.{All, sets_outside, sets_inside}
 use Rattle.plan.specs.Writes.{AllGood}
 use Rattle.plan.specs.Update.{View, update_for, store_all, write_of, Layout}
-use Rattle.plan.specs.UpdateLaws.{Fitting, update_good, update_fitting}
-use Rattle.plan.specs.LockLaws.{stored_outside}
+use Rattle.plan.proofs.UpdateLaws.{Fitting, update_good, update_fitting}
+use Rattle.plan.proofs.LockLaws.{stored_outside}
 use Rattle.host.specs.declared.Header.{Header}
 use Rattle.host.specs.declared.Record.{Record}
 use Rattle.host.specs.Record.{is_trim, lock_keeps, may_write}
 use Rattle.host.specs.RecordLaws.{not_locked, writable_may, enable_free}
 use Rattle.host.specs.LockLaws.{Marks}
-use Rattle.host.specs.SoundLaws.{Sound}
+use Rattle.host.proofs.SoundLaws.{Sound}
 use Rattle.writes.specs.Marks.{chip_view}
 use Rattle.update.specs.Update.{writes_of, updating}
 

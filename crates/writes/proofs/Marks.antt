@@ -17,7 +17,7 @@ use Rattle.map.specs.KindTable.{kind_in}
 use Rattle.map.specs.KindLaws.{kind_in_table}
 use Rattle.plan.specs.Plan.{Mark, hole, clean, dirty}
 use Rattle.plan.specs.Update.{mark_at}
-use Rattle.plan.specs.UpdateLaws.{marks_at_lem}
+use Rattle.plan.proofs.UpdateLaws.{marks_at_lem}
 use Rattle.plan.specs.NextLaws.{Closed, Extends, extends_more, extends_over, extends_all}
 use Rattle.host.specs.declared.Header.{Header}
 use Rattle.host.specs.Record.{record_of, lock_keeps, may_write}

@@ -5,7 +5,7 @@ use mathlib.Core.Path.{sym, ◌∙◌}
 use native.Mathlib.Omega.{arith}
 use borrow.Author.Tests.{not-true, not-false}
 use Rattle.host.specs.Record.{record_of}
-use Rattle.host.specs.SoundLaws.{sound_is}
+use Rattle.host.proofs.SoundLaws.{sound_is}
 use Rattle.writes.specs.WholeLaws.{sound_whole}
 use Rattle.update.proofs.WholeList.{parts_unsound, parts_short, parts_listed, sized, listed}
 use Rattle.update.proofs.lists.update_parts.Goals as goal

@@ -1,0 +1,4 @@
+pub mod BridgeLaws
+pub mod BusTheorem
+pub mod FinishingLaws
+pub mod UsedLaws

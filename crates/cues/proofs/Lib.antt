@@ -1,0 +1,2 @@
+pub mod CueChanges
+pub mod CueLaws

@@ -1,0 +1,2 @@
+pub mod PanelRecoveryLaws
+pub mod PanelTheorem

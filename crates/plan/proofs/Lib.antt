@@ -1,0 +1,10 @@
+pub mod Again
+pub mod Cheapest
+pub mod Follow
+pub mod LockLaws
+pub mod MachineLaws
+pub mod PlanLaws
+pub mod PortionLaws
+pub mod UpdateLaws
+pub mod Heard
+pub mod Covered
