@@ -46,7 +46,7 @@ returns c = (
     le-ltb _ _ c.if-byte-lt48.false,
     lt-leb _ _ c.if-byte-le57.false,
     le-ltb _ _ c.if-byte-lt65.false,
-    lt-leb _ _ c.if-byte-le70.false,
+    lt-leb _ 70 c.if-byte-le70.false,
     le-ltb _ _ c.if-byte-lt97.false,
     lt-leb _ _ c.if-byte-le102.false,
   ),
