@@ -1,7 +1,7 @@
 -- Laws of Show.antt: what is shown, line by line; the lengths of the texts: three bytes for each byte of the transactions, and those of n
 -- and t. What is shown of any list fits a buffer of 196,608 bytes, three for each byte of the longest list.
 -- Assumes nothing.
-use Rattle.std.specs.Prelude.{◌≡◌, refl, Bool, true, false, List, [], ◌∷◌, ◌++◌, ℕ, ◌+◌, ◌*◌, ◌<◌, ◌≤◌, leb, length, get_or, take, drop}
+use Rattle.std.specs.Prelude.{◌≡◌, refl, Bool, true, false, List, [], ◌∷◌, ◌++◌, ℕ, ◌+◌, ◌*◌, ◌≤◌, leb, length, get_or, take, drop}
 use Rattle.std.proofs.Common.{sym, ap, ◌∙◌, append_assoc, arith, leb-true, le-leb, length-append, length-drop, length-take-le}
 use Rattle.map.specs.declared.refusals.Refusal.TheVariants.{ListSizes}
 use Rattle.map.specs.Refusals.{refusal_number}

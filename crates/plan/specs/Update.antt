@@ -1,6 +1,6 @@
 -- The update's list: document 01, "Burst lists", Update. `ok a` says that an address is writable, and there are n addresses.
 -- Assumes nothing.
-use Rattle.std.specs.Prelude.{◌≡◌, Bool, true, false, List, [], ◌∷◌, ◌++◌, map, ℕ, zero, suc, ◌+◌, ◌%◌, ◌≤◌, ◌<◌, eqb, length, get_or, take, drop}
+use Rattle.std.specs.Prelude.{◌≡◌, Bool, true, false, List, [], ◌∷◌, ◌++◌, map, ℕ, zero, suc, ◌%◌, ◌≤◌, ◌<◌, eqb, length, get_or, take, drop}
 use Rattle.std.proofs.lemmas.List.Edits.{sets}
 use Rattle.burst.specs.Burst.{Burst}
 use Rattle.plan.specs.Plan.{Mark, hole, clean, dirty, Write, plan}

@@ -1,16 +1,14 @@
 -- One lemma for each end of the functions that put a text, and for each turn of their loops.
 -- Assumes nothing.
 use mathlib.Core.Path.{◌≡◌, refl, sym, ap, ◌∙◌}
-use mathlib.Core.Bool.{cond}
 use mathlib.Core.List.{List, [], ◌∷◌, ◌++◌}
-use Prim.Native.Nat.{ℕ, suc, ◌+◌, ◌/◌, ◌%◌, ◌<◌, ◌≤◌}
+use Prim.Native.Nat.{ℕ, ◌+◌, ◌/◌, ◌%◌, ◌<◌, ◌≤◌}
 use native.Mathlib.Numerals.{add-one}
 use native.Mathlib.Omega.{arith}
 use borrow.Author.Tests.{lt-ltb, le-ltb, eq-eqb, ne_eqb}
-use lib.Dec.{ltb, eqb}
 use lib.ListN.{length, get_or, set, drop, drop_of_length-le}
 use lib.Seq.{drop-cons, set_out}
-use Rattle.text.specs.Text.{placed, place_after, Puts, digit, byte_text, address_text, decimal_text, each_text, spaced_text, spaced_bytes_text, bytes_text}
+use Rattle.text.specs.Text.{placed, place_after, Puts, digit, byte_text, address_text, decimal_text, each_text, spaced_text, bytes_text}
 use Rattle.text.specs.TextLaws.{next_inside, next_behind, puts_length, puts_then, puts_as, Putting, putting_none, putting_more, putting_all, decimal_small, decimal_more}
 
 -- ---- one byte

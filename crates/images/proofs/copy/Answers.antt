@@ -1,6 +1,5 @@
 -- `images::copy` meets its contract.
 -- Assumes nothing.
-use Prim.Native.Nat.{◌-◌}
 use native.Mathlib.Omega.{arith}
 use Rattle.images.proofs.Steps.{copied_none, copied_more, copied_all}
 use Rattle.images.proofs.copy.Goals as goal

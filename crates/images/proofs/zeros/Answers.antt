@@ -1,7 +1,6 @@
 -- `images::zeros` meets its contract.
 -- Assumes nothing.
 use mathlib.Core.Path.{◌≡◌, sym}
-use Prim.Native.Nat.{◌-◌}
 use native.Mathlib.Omega.{arith}
 use Rattle.map.specs.ListLaws.{all_none}
 use Rattle.images.proofs.Steps.{zeros_more}

@@ -1,6 +1,5 @@
 -- `listing::put_transactions` meets its contract.
 -- Assumes nothing.
-use Prim.Native.Nat.{◌-◌}
 use native.Mathlib.Omega.{arith}
 use Rattle.listing.proofs.Steps.{shown_none, shown_next, shown_more, shown_all}
 use Rattle.listing.proofs.put_transactions.Goals as goal

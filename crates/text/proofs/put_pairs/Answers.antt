@@ -1,6 +1,5 @@
 -- `text::put_pairs` meets its contract.
 -- Assumes nothing.
-use Prim.Native.Nat.{◌-◌}
 use Rattle.text.proofs.Steps.{each_none, each_more, each_all}
 use Rattle.text.proofs.put_pairs.Goals as goal
 

@@ -1,6 +1,5 @@
 -- `text::put_spaced_bytes` meets its contract.
 -- Assumes nothing.
-use Prim.Native.Nat.{◌-◌}
 use Rattle.text.specs.Text.{spaced_bytes_text}
 use Rattle.text.proofs.Steps.{each_none, each_more, each_all}
 use Rattle.text.proofs.put_spaced_bytes.Goals as goal

@@ -1,6 +1,5 @@
 -- `text::put_text` meets its contract.
 -- Assumes nothing.
-use Prim.Native.Nat.{◌-◌}
 use Rattle.text.proofs.Steps.{each_none, each_more, text_all}
 use Rattle.text.proofs.put_text.Goals as goal
 

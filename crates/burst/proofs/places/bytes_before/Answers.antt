@@ -1,6 +1,5 @@
 -- `burst::places::bytes_before` meets its contract.
 -- Assumes nothing.
-use Prim.Native.Nat.{◌-◌}
 use native.Mathlib.Omega.{arith}
 use Rattle.burst.specs.BurstLaws.{size_read}
 use Rattle.burst.proofs.Steps.{summed_none, summed_more, summed_all}

@@ -1,4 +1,3 @@
-use Prim.Native.Nat.{◌-◌}
 use native.Mathlib.Omega.{arith}
 use Rattle.burst.specs.BurstLaws.{size_read}
 use Rattle.burst.proofs.Steps.{counted_none, counted_more, counted_fails, counted_all}

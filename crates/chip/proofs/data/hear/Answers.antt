@@ -1,7 +1,6 @@
 -- `chip::data::hear` meets its contract.
 -- Assumes nothing.
 use Rattle.std.proofs.Common.{ap, not}
-use Prim.Native.Nat.{◌-◌}
 use native.Mathlib.Omega.{arith}
 use borrow.Author.Tests.{eq-eqb, ne_eqb}
 use Rattle.chip.proofs.Steps.{heard_none, heard_reset, heard_more, heard_all, heard_unheard, heard_dots}

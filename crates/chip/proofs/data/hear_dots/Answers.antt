@@ -1,6 +1,5 @@
 -- `chip::data::hear_dots` meets its contract.
 -- Assumes nothing.
-use Prim.Native.Nat.{◌-◌}
 use native.Mathlib.Omega.{arith}
 use Rattle.chip.proofs.Steps.{heard_none, heard_past, heard_all, dots_more}
 use Rattle.chip.proofs.data.hear_dots.Goals as goal

@@ -1,7 +1,6 @@
 -- `chip::data::zero_from` meets its contract.
 -- Assumes nothing.
 use mathlib.Core.Path.{◌≡◌}
-use Prim.Native.Nat.{◌-◌}
 use native.Mathlib.Omega.{arith}
 use lib.ListN.{length-set}
 use Rattle.chip.proofs.Steps.{zero_none, zero_more}

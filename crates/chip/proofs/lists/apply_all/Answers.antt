@@ -1,6 +1,5 @@
 -- `chip::lists::apply_all` meets its contract.
 -- Assumes nothing.
-use Prim.Native.Nat.{◌-◌}
 use native.Mathlib.Omega.{arith}
 use Rattle.chip.proofs.Steps.{applied_none, applied_next, applied_more, applied_all}
 use Rattle.chip.proofs.lists.apply_all.Goals as goal

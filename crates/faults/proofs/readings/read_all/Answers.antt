@@ -1,6 +1,5 @@
 -- `faults::readings::read_all` meets its contract.
 -- Assumes nothing.
-use Prim.Native.Nat.{◌-◌}
 use native.Mathlib.Omega.{arith}
 use Rattle.faults.proofs.Steps.{read_none, next_line_lem, read_whole}
 use Rattle.faults.proofs.readings.read_all.Goals as goal

@@ -1,6 +1,5 @@
 -- `faults::readings::read_line` meets its contract.
 -- Assumes nothing.
-use Prim.Native.Nat.{◌-◌}
 use native.Mathlib.Omega.{arith}
 use Rattle.faults.proofs.Steps.{line_none, line_more, line_whole}
 use Rattle.faults.proofs.readings.read_line.Goals as goal

@@ -1,7 +1,6 @@
 -- `faults::untested::mark` meets its contract.
 -- Assumes nothing.
 use mathlib.Core.Path.{ap, ◌∙◌}
-use Prim.Native.Nat.{◌-◌}
 use native.Mathlib.Omega.{arith}
 use Rattle.faults.specs.Faults.{tested_from}
 use Rattle.faults.proofs.Steps.{marked_none, marked_more, marked_whole}

@@ -4,8 +4,7 @@ use Rattle.std.proofs.Common.{ap, not}
 use mathlib.Core.Path.{◌≡◌, sym, ◌∙◌}
 use native.Mathlib.Omega.{arith}
 use borrow.Author.Tests.{not-true, not-false}
-use Prim.Native.Nat.{◌+◌, ◌-◌}
-use mathlib.Core.Bool.{true}
+use Prim.Native.Nat.{◌+◌}
 use Rattle.map.specs.ListLaws.{all_none}
 use Rattle.host.proofs.Steps.{next_holds, one_fails, scene_dot_lem}
 use Rattle.host.proofs.scenes.has_dots.Goals as goal

@@ -2,8 +2,6 @@
 -- Assumes nothing.
 use mathlib.Core.Path.{◌≡◌, sym}
 use native.Mathlib.Omega.{arith}
-use Prim.Native.Nat.{◌-◌}
-use mathlib.Core.Bool.{true}
 use Rattle.map.specs.ListLaws.{all_none}
 use Rattle.host.proofs.Steps.{next_holds, one_fails, level_above, level_within}
 use Rattle.host.proofs.scenes.levels_fit.Goals as goal

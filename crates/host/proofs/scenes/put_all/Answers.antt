@@ -2,7 +2,6 @@
 -- Assumes nothing.
 use mathlib.Core.Path.{◌≡◌, sym, ap, ◌∙◌}
 use native.Mathlib.Omega.{arith}
-use Prim.Native.Nat.{◌-◌}
 use lib.ListN.{length}
 use Rattle.dots.specs.Dots.{wide_of}
 use Rattle.host.proofs.Steps.{scene_mode, scene_none, scene_more, scene_length}

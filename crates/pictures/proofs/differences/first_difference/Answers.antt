@@ -1,6 +1,5 @@
 -- `pictures::differences::first_difference` meets its contract.
 -- Assumes nothing.
-use Prim.Native.Nat.{◌-◌}
 use native.Mathlib.Omega.{arith}
 use Rattle.pictures.proofs.Steps.{sought_none, sought_more, sought_found, sought_all}
 use Rattle.pictures.proofs.differences.first_difference.Goals as goal

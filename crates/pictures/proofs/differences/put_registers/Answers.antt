@@ -1,7 +1,6 @@
 -- `pictures::differences::put_registers` meets its contract.
 -- Assumes nothing.
 use mathlib.Core.Path.{◌∙◌}
-use Prim.Native.Nat.{◌-◌}
 use native.Mathlib.Omega.{arith}
 use Rattle.text.specs.TextLaws.{puts_length}
 use Rattle.pictures.proofs.Steps.{listed_first, listed_more, listed_all, later}

@@ -1,7 +1,6 @@
 -- `pictures::faults::put_faults` meets its contract.
 -- Assumes nothing.
 use mathlib.Core.Path.{◌∙◌}
-use Prim.Native.Nat.{◌-◌}
 use native.Mathlib.Omega.{arith}
 use Rattle.text.specs.TextLaws.{puts_length}
 use Rattle.pictures.specs.Pictures.{faults_text}

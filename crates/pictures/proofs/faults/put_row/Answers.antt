@@ -1,6 +1,5 @@
 -- `pictures::faults::put_row` meets its contract.
 -- Assumes nothing.
-use Prim.Native.Nat.{◌-◌}
 use Rattle.pictures.proofs.Steps.{row_none, row_more, row_all, fault_is}
 use Rattle.pictures.proofs.faults.put_row.Goals as goal
 

@@ -1,7 +1,6 @@
 -- `pictures::lamps::put_lamps` meets its contract.
 -- Assumes nothing.
 use mathlib.Core.Path.{◌∙◌}
-use Prim.Native.Nat.{◌-◌}
 use Rattle.text.specs.TextLaws.{puts_length}
 use Rattle.pictures.specs.Pictures.{lamps_text}
 use Rattle.pictures.proofs.Steps.{rows_none, rows_first, rows_more, rows_all}

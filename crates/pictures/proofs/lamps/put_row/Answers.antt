@@ -1,7 +1,5 @@
 -- `pictures::lamps::put_row` meets its contract.
 -- Assumes nothing.
-use Prim.Native.Nat.{◌-◌}
-use Rattle.pictures.specs.Pictures.{lamp_char}
 use Rattle.pictures.proofs.Steps.{row_none, row_more, row_all}
 use Rattle.pictures.proofs.lamps.put_row.Goals as goal
 

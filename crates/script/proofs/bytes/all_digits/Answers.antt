@@ -3,7 +3,6 @@
 use native.Mathlib.Omega.{arith}
 use Rattle.script.proofs.Reading.{digits_more, digits_wrong, digits_all}
 use mathlib.Core.Path.{refl}
-use Prim.Native.Nat.{◌-◌}
 use Rattle.script.proofs.bytes.all_digits.Goals as goal
 
 pub loop-i-init : goal.loop-i-init

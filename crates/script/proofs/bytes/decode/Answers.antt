@@ -2,7 +2,6 @@
 -- Assumes nothing.
 use native.Mathlib.Omega.{arith}
 use Rattle.script.proofs.Reading.{decodes_none, decodes_more, decodes_all}
-use Prim.Native.Nat.{◌-◌}
 use Rattle.script.proofs.bytes.decode.Goals as goal
 
 pub loop-k-init : goal.loop-k-init

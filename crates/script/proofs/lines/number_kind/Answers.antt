@@ -1,7 +1,6 @@
 -- `script::lines::number_kind` meets its contract.
 -- Assumes nothing.
 use mathlib.Core.Path.{refl}
-use Prim.Native.Nat.{◌-◌}
 use native.Mathlib.Omega.{arith}
 use Rattle.script.specs.Lines.{number_kinds, kind_among}
 use Rattle.script.proofs.Judging.{seeks_here, seeks_more, seeks_nowhere}

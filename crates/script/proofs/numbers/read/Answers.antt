@@ -1,6 +1,5 @@
 -- `script::numbers::read` meets its contract.
 -- Assumes nothing.
-use Prim.Native.Nat.{◌-◌}
 use native.Mathlib.Omega.{arith}
 use Rattle.script.proofs.Reading.{digit_follows, reads_empty, reads_many, reads_baseless, reads_none, reads_more, reads_wrong, reads_large, reads_past, reads_all}
 use Rattle.script.proofs.numbers.read.Goals as goal

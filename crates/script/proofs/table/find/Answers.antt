@@ -1,6 +1,5 @@
 -- `script::table::find` meets its contract.
 -- Assumes nothing.
-use Prim.Native.Nat.{◌-◌}
 use native.Mathlib.Omega.{arith}
 use Rattle.script.proofs.Judging.{stands_first, stands_here, stands_more, stands_nowhere}
 use Rattle.script.proofs.table.find.Goals as goal

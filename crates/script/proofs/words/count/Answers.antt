@@ -2,7 +2,6 @@
 -- Assumes nothing.
 use Rattle.script.proofs.Reading.{count_more, count_all_lem}
 use native.Mathlib.Omega.{arith}
-use Prim.Native.Nat.{◌-◌}
 use Rattle.script.proofs.words.count.Goals as goal
 
 pub loop-i-preserved : goal.loop-i-preserved

@@ -2,7 +2,6 @@
 -- Assumes nothing.
 use native.Mathlib.Omega.{arith}
 use Rattle.script.proofs.Reading.{end_here, end_more, end_all}
-use Prim.Native.Nat.{◌-◌}
 use Rattle.script.proofs.words.end.Goals as goal
 
 pub returns-then-text-i : goal.returns-then-text-i

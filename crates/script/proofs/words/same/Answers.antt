@@ -3,7 +3,6 @@
 use native.Mathlib.Omega.{arith}
 use Rattle.script.proofs.Reading.{same_lengths, same_more, same_differs, same_all}
 use mathlib.Core.Path.{refl, sym}
-use Prim.Native.Nat.{◌-◌}
 use Rattle.script.proofs.words.same.Goals as goal
 
 pub returns-then-word-text : goal.returns-then-word-text

@@ -2,7 +2,6 @@
 -- Assumes nothing.
 use mathlib.Core.Path.{refl}
 use native.Mathlib.Omega.{arith}
-use Prim.Native.Nat.{◌-◌}
 use Rattle.writes.proofs.Counting.{placed_on, counting_start, counting_more, counting_small, counting_done}
 use Rattle.writes.proofs.scan.count_writes.Goals as goal
 

@@ -1,7 +1,6 @@
 -- `writes::scan::first_differing` meets its contract.
 -- Assumes nothing.
 use native.Mathlib.Omega.{arith}
-use Prim.Native.Nat.{◌-◌}
 use Rattle.writes.proofs.Bytes.{same_join, same_more, found, none_found}
 use Rattle.writes.proofs.scan.first_differing.Goals as goal
 

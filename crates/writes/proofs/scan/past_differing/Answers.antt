@@ -1,7 +1,6 @@
 -- `writes::scan::past_differing` meets its contract.
 -- Assumes nothing.
 use native.Mathlib.Omega.{arith}
-use Prim.Native.Nat.{◌-◌}
 use Rattle.writes.proofs.Bytes.{differing_none, differing_more, differing_done}
 use Rattle.writes.proofs.scan.past_differing.Goals as goal
 

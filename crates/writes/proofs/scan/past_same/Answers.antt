@@ -1,7 +1,6 @@
 -- `writes::scan::past_same` meets its contract.
 -- Assumes nothing.
 use Rattle.std.proofs.Common.{ap, not}
-use Prim.Native.Nat.{◌-◌}
 use borrow.Author.Tests.{not-false}
 use Rattle.writes.proofs.Bytes.{same_none, same_join}
 use Rattle.writes.proofs.scan.past_same.Goals as goal

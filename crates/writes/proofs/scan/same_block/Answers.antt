@@ -1,6 +1,5 @@
 -- `writes::scan::same_block` meets its contract.
 -- Assumes nothing.
-use Prim.Native.Nat.{◌-◌}
 use native.Mathlib.Omega.{arith}
 use borrow.Author.Tests.{eqb-true}
 use Rattle.writes.proofs.Bytes.{block_none, block_more, block_whole}

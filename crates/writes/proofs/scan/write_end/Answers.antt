@@ -1,7 +1,6 @@
 -- `writes::scan::write_end` meets its contract.
 -- Assumes nothing.
 use native.Mathlib.Omega.{arith}
-use Prim.Native.Nat.{◌-◌}
 use Rattle.writes.proofs.Marks.{differ_on, further_on, end_closed, end_last}
 use Rattle.writes.proofs.scan.write_end.Goals as goal
 

@@ -1,6 +1,5 @@
 -- `writes::storing::store_list` meets its contract.
 -- Assumes nothing.
-use Prim.Native.Nat.{◌-◌}
 use native.Mathlib.Omega.{arith}
 use Rattle.burst.specs.BurstLaws.{size_read}
 use Rattle.writes.proofs.ListStored.{storing_none, place_small, storing_more, all_stored}

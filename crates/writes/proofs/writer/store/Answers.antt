@@ -1,6 +1,5 @@
 -- `writes::writer::store` meets its contract.
 -- Assumes nothing.
-use Prim.Native.Nat.{◌-◌}
 use native.Mathlib.Omega.{arith}
 use Rattle.writes.proofs.Bytes.{copied_none, copied_more, copied_all}
 use Rattle.writes.proofs.writer.store.Goals as goal
