@@ -1,6 +1,6 @@
 -- Which chips hear the list of a round, computed.
 -- Assumes nothing.
-use Rattle.std.specs.Prelude.{◌≡◌, refl, Bool, true, false, [], ◌∷◌, map, ℕ}
+use Rattle.std.specs.Prelude.{◌≡◌, refl, true, false, [], ◌∷◌, map}
 use Rattle.chip.specs.Chip.{chip_of}
 use Rattle.bus.specs.Bus.{on_bus}
 

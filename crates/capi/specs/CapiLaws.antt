@@ -1,6 +1,6 @@
 -- Laws of the C interface: records and chips read back from their bytes, what a refused call leaves, and what 0 stores.
 -- Assumes nothing.
-use Rattle.std.specs.Prelude.{◌≡◌, Bool, true, false, cond, ◌&&◌, ℕ, suc, ◌+◌, ◌≤◌, ◌<◌, leb, eqb, length, get_or, set}
+use Rattle.std.specs.Prelude.{◌≡◌, Bool, true, false, cond, ℕ, suc, ◌+◌, ◌≤◌, leb, eqb, length, get_or, set}
 use Rattle.std.proofs.Math.Path.{refl, sym, ap}
 use Rattle.std.proofs.Common.{ap₂, ◌∙◌, arith, length-append, take_all, take_at, drop_at, take-add, drop-drop}
 use Rattle.std.proofs.lemmas.Bool.{false≢true}

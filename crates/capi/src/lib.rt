@@ -236,12 +236,7 @@ pub fn lp586x_round(
     lists::count(answer, n, t)
 }
 
-pub fn lp586x_transaction(
-    list: &[u8],
-    index: u32,
-    offset: &mut u32,
-    size: &mut u32,
-) -> u32
+pub fn lp586x_transaction(list: &[u8], index: u32, offset: &mut u32, size: &mut u32) -> u32
     ensures value { result ≡ (transaction_call list.now index offset.old size.old).answer }
     ensures offset_after { offset.new ≡ (transaction_call list.now index offset.old size.old).offset }
     ensures size_after { size.new ≡ (transaction_call list.now index offset.old size.old).size }

@@ -1,7 +1,6 @@
 -- `capi::records::image` meets its contract.
 -- Assumes nothing.
 use mathlib.Core.Path.{refl}
-use Prim.Native.Nat.{◌-◌}
 use native.Mathlib.Omega.{arith}
 use Rattle.capi.proofs.Copies.{copied_none, part_more, part_done}
 use Rattle.capi.proofs.records.image.Goals as goal

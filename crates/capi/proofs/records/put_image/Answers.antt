@@ -1,6 +1,5 @@
 -- `capi::records::put_image` meets its contract.
 -- Assumes nothing.
-use Prim.Native.Nat.{◌-◌}
 use native.Mathlib.Omega.{arith}
 use Rattle.capi.proofs.Copies.{copied_none, copied_more, image_done}
 use Rattle.capi.proofs.records.put_image.Goals as goal

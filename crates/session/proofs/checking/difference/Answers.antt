@@ -2,7 +2,6 @@
 -- Assumes nothing.
 use native.Mathlib.Omega.{arith}
 use mathlib.Core.Path.{refl}
-use Prim.Native.Nat.{◌-◌}
 use Rattle.session.proofs.Comparing.{compare_more, compare_found, compare_all}
 use Rattle.session.proofs.checking.difference.Goals as goal
 

@@ -1,6 +1,5 @@
 -- `session::pending::pending_numbers` meets its contract.
 -- Assumes nothing.
-use native.Mathlib.Omega.{arith}
 use mathlib.Core.Path.{ap, ◌∙◌}
 use Rattle.map.specs.Refusals.{numbers_of}
 use Rattle.session.proofs.Effects.{pending_listed, pending_refused}
