@@ -12,10 +12,12 @@ use borrow.Author.Tests.{eq-eqb, ne_eqb, le-leb, lt-leb, lt-ltb, le-ltb, not-tru
 use lib.Dec.{leb, eqb}
 use lib.ListN.{length, set}
 use lib.Seq.{set_out}
-use Rattle.burst.specs.declared.places.Place.TheVariants.{At, BadSizes, NoIndex}
-use Rattle.burst.specs.declared.sizes.Sizes.TheVariants.{Good, Bad}
-use Rattle.burst.specs.Burst.{size16, put_size, n_of, t_of, lengths_from, lengths, sum, all_at_least3, lengths_good, sizes_good, sizes_of, bytes_before, offset_at, place_of, head_address}
-use Rattle.burst.specs.BurstLaws.{size_small, lengths_none, lengths_step, GoodSizes, sizes_bad}
+use Rattle.std.specs.Prelude.{Option, None, Some, Ok, Err, ok_or}
+use Rattle.burst.specs.declared.sizes.Sizes.{Sizes}
+use Rattle.burst.specs.declared.places.PlaceError.{PlaceError}
+use Rattle.burst.specs.declared.places.PlaceError.TheVariants.{BadSizes, NoIndex}
+use Rattle.burst.specs.Burst.{size16, put_size, n_of, t_of, lengths_from, lengths, sum, all_at_least3, lengths_good, sizes_good, sized, sizes_of, bytes_before, offset_at, at, place_of, head_address}
+use Rattle.burst.specs.BurstLaws.{size_small, lengths_none, lengths_step, GoodSizes, sizes_good_lem, sizes_bad}
 use Rattle.burst.specs.PlaceLaws.{length_at_lem, bytes_none, bytes_next, bytes_most}
 
 -- ---- heads
@@ -81,26 +83,26 @@ counted_all l n s i t h c =
 
 -- a list of the right length with the lengths good or not
 sizes_by : (l : List ℕ) (n t : ℕ) (b : Bool) → n ≡ size16 l 0 → t ≡ size16 l 2 → 4 ≤ length l → length l ≡ 4 + 2 * n + t →
-    b ≡ lengths_good (lengths_from l 4 n) t → cond b (Good n t) Bad ≡ sizes_of l
+    b ≡ lengths_good (lengths_from l 4 n) t → cond b (sized n t) None ≡ sizes_of l
 unfolding sizes_of sizes_good lengths n_of t_of
 sizes_by l n t b en et h s e =
     simp (← en, ← et, le-leb 4 (length l) h, eq-eqb (length l) (4 + 2 * n + t) s, ← e, and-true b)
 
-pub sizes_short : (l : List ℕ) → length l < 4 → Bad ≡ sizes_of l
+pub sizes_short : (l : List ℕ) → length l < 4 → None ≡ sizes_of l
 unfolding sizes_of sizes_good
 sizes_short l h = simp (lt-leb 4 (length l) h)
 
-pub sizes_other : (l : List ℕ) (n t : ℕ) → n ≡ size16 l 0 → t ≡ size16 l 2 → (length l ≡ 4 + 2 * n + t → ⊥) → Bad ≡ sizes_of l
+pub sizes_other : (l : List ℕ) (n t : ℕ) → n ≡ size16 l 0 → t ≡ size16 l 2 → (length l ≡ 4 + 2 * n + t → ⊥) → None ≡ sizes_of l
 unfolding sizes_of sizes_good n_of t_of
 sizes_other l n t en et s =
     simp (← en, ← et, ne_eqb (length l) (4 + 2 * n + t) s, and-false (lengths_good (lengths l) t), and-false (leb 4 (length l)))
 
 pub sizes_lengths : (l : List ℕ) (n t : ℕ) (b : Bool) → n ≡ size16 l 0 → t ≡ size16 l 2 → 4 ≤ length l → length l ≡ 4 + 2 * n + t →
-    b ≡ lengths_good (lengths_from l 4 n) t → not b ≡ true → Bad ≡ sizes_of l
+    b ≡ lengths_good (lengths_from l 4 n) t → not b ≡ true → None ≡ sizes_of l
 sizes_lengths l n t b en et h s e f = sizes_by l n t false en et h s (sym (not-true b f) ∙ e)
 
 pub sizes_all : (l : List ℕ) (n t : ℕ) (b : Bool) → n ≡ size16 l 0 → t ≡ size16 l 2 → 4 ≤ length l → length l ≡ 4 + 2 * n + t →
-    b ≡ lengths_good (lengths_from l 4 n) t → not b ≡ false → Good n t ≡ sizes_of l
+    b ≡ lengths_good (lengths_from l 4 n) t → not b ≡ false → sized n t ≡ sizes_of l
 sizes_all l n t b en et h s e f = sizes_by l n t true en et h s (sym (not-false b f) ∙ e)
 
 -- ---- the loop over the lengths before a transaction
@@ -138,16 +140,32 @@ summed_all l index s i h c =
 pub before_small : (l : List ℕ) (n t i before : ℕ) → GoodSizes l n t → before ≡ bytes_before l i → before < 65536
 before_small l n t i before g e = omega (arith, bytes_most l i g.good, g.t_is, g.t_small)
 
-pub place_bad : (l : List ℕ) (i : ℕ) → sizes_of l ≡ Bad → BadSizes ≡ place_of l i
-unfolding place_of
-place_bad l i e = rw (sizes_bad l e) refl
+-- the sizes as they were read, or the error where there are none
+module _ (l : List ℕ) (r : Option Sizes) (read : r ≡ sizes_of l) where
+  pub good_read : (s : Sizes) → Ok s ≡ ok_or r BadSizes → GoodSizes l s.n s.t
+  good_read s e = sizes_good_lem l s.n s.t (sym read ∙ was r e)
+    where
+      was : (o : Option Sizes) → Ok s ≡ ok_or o BadSizes → o ≡ Some s
+      was o e = grind arith
 
-pub place_none : (l : List ℕ) (n t i : ℕ) → GoodSizes l n t → n ≤ i → NoIndex ≡ place_of l i
+  pub place_bad : (i : ℕ) (e : PlaceError) → Err e ≡ ok_or r BadSizes → Err e ≡ place_of l i
+  unfolding place_of
+  place_bad i e h = rw (same r h, sizes_bad l (sym read ∙ none r h)) refl
+    where
+      same : (o : Option Sizes) → Err e ≡ ok_or o BadSizes → e ≡ BadSizes
+      same None q = cc
+      same (Some s) q = cc
+
+      none : (o : Option Sizes) → Err e ≡ ok_or o BadSizes → o ≡ None
+      none None q = refl
+      none (Some s) q = cc
+
+pub place_none : (l : List ℕ) (n t i : ℕ) → GoodSizes l n t → n ≤ i → Err NoIndex ≡ place_of l i
 unfolding place_of
 place_none l n t i g h = rw (g.good, g.n_is, le-ltb i n h) refl
 
 pub place_at : (l : List ℕ) (n t i before k : ℕ) → GoodSizes l n t → i < n → before ≡ bytes_before l i → k ≡ size16 l (4 + 2 * i) →
-    At (4 + 2 * n + before) k ≡ place_of l i
+    at (4 + 2 * n + before) k ≡ place_of l i
 unfolding place_of offset_at
 place_at l n t i before k g h e f =
     let below : i < n_of l = omega (arith, g.n_is) in

@@ -13,5 +13,5 @@ mod places;
 mod sizes;
 
 pub use heads::{head_address, head_first, head_second, head_writes};
-pub use places::{Place, transaction};
+pub use places::{Place, PlaceError, transaction};
 pub use sizes::{Sizes, put_size, read_sizes, size_at};

@@ -5,10 +5,15 @@ ghost use Rattle.burst.specs.Burst.{n_of, bytes_before, place_of};
 use crate::sizes;
 use crate::sizes::Sizes;
 
+// The first byte of a transaction, and how many it has.
 #[derive(Clone, Copy)]
-pub enum Place {
-    // the first byte of the transaction, and how many it has
-    At { offset: usize, length: usize },
+pub struct Place {
+    pub offset: usize,
+    pub length: usize,
+}
+
+#[derive(Clone, Copy, PartialEq, Eq)]
+pub enum PlaceError {
     // the list's sizes do not add up
     BadSizes,
     // an index of n or more
@@ -21,30 +26,21 @@ fn bytes_before(list: &[u8], index: usize) -> usize
     ensures { result ≡ bytes_before list.now index }
 {
     let mut bytes: usize = 0;
-    let mut i: usize = 0;
-    while i < index {
+    for i in 0..index {
         bytes += sizes::size_at(list, 4 + 2 * i);
-        i += 1;
     }
     bytes
 }
 
 // The place of the transaction with this number, counted from 0.
-pub fn transaction(list: &[u8], index: usize) -> Place
+pub fn transaction(list: &[u8], index: usize) -> Result<Place, PlaceError>
     ensures { result ≡ place_of list.now index }
 {
-    let sizes = sizes::read_sizes(list);
-    let Sizes::Good { n, t: _ } = sizes else {
-        return Place::BadSizes;
-    };
+    let Sizes { n, t: _ } = sizes::read_sizes(list).ok_or(PlaceError::BadSizes)?;
     if n <= index {
-        return Place::NoIndex;
+        return Err(PlaceError::NoIndex);
     }
-    let before = bytes_before(list, index);
-    let offset = 4 + 2 * n + before;
+    let offset = 4 + 2 * n + bytes_before(list, index);
     let length = sizes::size_at(list, 4 + 2 * index);
-    Place::At {
-        offset: offset,
-        length: length,
-    }
+    Ok(Place { offset, length })
 }

@@ -2,20 +2,17 @@
 ghost use Rattle.std.specs.Prelude.{◌≡◌, ◌<◌, length};
 ghost use Rattle.burst.specs.Burst.{byte_at, size16, put_size, lengths_from, lengths_good, sizes_of};
 
-// What the sizes of a list say: n transactions of t bytes together, or sizes that do not add up.
+// What the sizes of a list say: n transactions of t bytes together.
 #[derive(Clone, Copy)]
-pub enum Sizes {
-    Good { n: usize, t: usize },
-    Bad,
+pub struct Sizes {
+    pub n: usize,
+    pub t: usize,
 }
 
 fn byte_at(list: &[u8], at: usize) -> usize
     ensures { result ≡ byte_at list.now at }
 {
-    if at < list.len() {
-        return list[at] as usize;
-    }
-    0
+    list.get(at).copied().unwrap_or(0) as usize
 }
 
 // The size at a place; a byte behind the end counts as 0.
@@ -25,9 +22,7 @@ pub fn size_at(list: &[u8], at: usize) -> usize
     if list.len() <= at {
         return 0;
     }
-    let low = byte_at(list, at);
-    let high = byte_at(list, at + 1);
-    low + 256 * high
+    byte_at(list, at) + 256 * byte_at(list, at + 1)
 }
 
 // Stores a size at a place; a byte behind the end is not stored.
@@ -50,32 +45,30 @@ fn lengths_good(list: &[u8], n: usize, t: usize) -> bool
     ensures { result ≡ lengths_good (lengths_from list.now 4 n) t }
 {
     let mut sum: usize = 0;
-    let mut i: usize = 0;
-    while i < n {
+    for i in 0..n {
         let length = size_at(list, 4 + 2 * i);
         if length < 3 {
             return false;
         }
         sum += length;
-        i += 1;
     }
     sum == t
 }
 
 // "A list whose sizes do not add up is refused whole."
-pub fn read_sizes(list: &[u8]) -> Sizes
+pub fn read_sizes(list: &[u8]) -> Option<Sizes>
     ensures { result ≡ sizes_of list.now }
 {
     if list.len() < 4 {
-        return Sizes::Bad;
+        return None;
     }
     let n = size_at(list, 0);
     let t = size_at(list, 2);
     if list.len() != 4 + 2 * n + t {
-        return Sizes::Bad;
+        return None;
     }
     if !lengths_good(list, n, t) {
-        return Sizes::Bad;
+        return None;
     }
-    Sizes::Good { n: n, t: t }
+    Some(Sizes { n, t })
 }

@@ -1,11 +1,5 @@
--- `burst::places::bytes_before` meets its contract.
--- Assumes nothing.
-use Prim.Native.Nat.{◌-◌}
 use Rattle.burst.proofs.Steps.{Summed}
 use Rattle.burst.proofs.places.bytes_before.Given as goal
 
 abbrev pub invariant-loop-i : goal.invariant-loop-i
 invariant-loop-i l = Summed l.list l.index l.bytes l.i
-
-abbrev pub decreases-loop-i : goal.decreases-loop-i
-decreases-loop-i l = l.index - l.i
