@@ -1,7 +1,7 @@
 -- What Open answers, by the ranges of its arguments, and what follows from its acceptance. The numbers of an answer are those of its
 -- list, and the first of them is small.
 -- Assumes nothing.
-use Rattle.std.specs.Prelude.{◌≡◌, Bool, ◌&&◌, ◌||◌, List, [], ◌∷◌, ℕ, ◌<◌, ◌≤◌, ltb, eqb, length, take}
+use Rattle.std.specs.Prelude.{◌≡◌, Bool, ◌&&◌, ◌||◌, List, [], ◌∷◌, ℕ, Ok, Err, ◌<◌, ◌≤◌, ltb, eqb, length, take}
 use Rattle.std.proofs.Math.Path.{refl}
 use Rattle.std.proofs.Common.{sym, ap, ◌∙◌, take_all}
 use Rattle.std.proofs.Math.Bool.{true, false, cond}
@@ -10,11 +10,9 @@ use Rattle.std.proofs.Math.Decide.{dec_lt}
 use native.Mathlib.Omega.{arith}
 use borrow.Author.Tests.{lt-ltb, le-ltb, eq-eqb}
 use Rattle.std.proofs.Math.Seq.{take-nil}
-use Rattle.map.specs.declared.refusals.Answer.{Answer}
 use Rattle.map.specs.declared.refusals.Refusal.{Refusal}
 use Rattle.map.specs.declared.refusals.Refusal.TheVariants.{Member, Bus, Pins, NotWritable, ReservedBit, NoDot, Level, GroupOrState, SceneLength, BufferShort, ListSizes, FaultLength, Unsound, RoundLimit, NotItsPlace, Locked, NotLockable, NoTransaction}
-use Rattle.map.specs.declared.refusals.Answer.TheVariants.{Accepted, Refused}
-use Rattle.map.specs.Refusals.{refusal_number, answer_number, numbers_in, numbers_of, open_answer, opens}
+use Rattle.map.specs.Refusals.{Answer, refusal_number, answer_number, numbers_in, numbers_of, open_answer, opens}
 
 -- an answer has at most four values
 pub numbers_five : (l : List ℕ) → numbers_in (numbers_of l) ≡ take 5 l
@@ -51,39 +49,39 @@ refusal_small NotLockable = omega arith
 refusal_small NoTransaction = omega arith
 
 pub answer_small : (answer : Answer) → answer_number answer < 100
-answer_small Accepted = omega arith
-answer_small (Refused r) = refusal_small r
+answer_small (Ok u) = omega arith
+answer_small (Err r) = refusal_small r
 
 module _ (m b p : ℕ) where
-  pub open_member : 4 < m → open_answer m b p ≡ Refused Member
+  pub open_member : 4 < m → open_answer m b p ≡ Err Member
   unfolding open_answer
   open_member h = rw (lt-ltb 4 m h) refl
 
-  pub open_bus : m ≤ 4 → 1 < b → open_answer m b p ≡ Refused Bus
+  pub open_bus : m ≤ 4 → 1 < b → open_answer m b p ≡ Err Bus
   unfolding open_answer
   open_bus hm h = rw (le-ltb 4 m hm, lt-ltb 1 b h) refl
 
-  pub open_pins : m ≤ 4 → b ≤ 1 → 3 < p → open_answer m b p ≡ Refused Pins
+  pub open_pins : m ≤ 4 → b ≤ 1 → 3 < p → open_answer m b p ≡ Err Pins
   unfolding open_answer
   open_pins hm hb h = rw (le-ltb 4 m hm, le-ltb 1 b hb, lt-ltb 3 p h) refl
 
-  pub open_i2c : m ≤ 4 → p ≤ 3 → b ≡ 0 → open_answer m b p ≡ Accepted
+  pub open_i2c : m ≤ 4 → p ≤ 3 → b ≡ 0 → open_answer m b p ≡ Ok tt
   unfolding open_answer
   open_i2c hm hp e = rw (le-ltb 4 m hm, e, le-ltb 3 p hp) refl
 
-  pub open_spi_pins : m ≤ 4 → b ≤ 1 → (b ≡ 0 → ⊥) → 0 < p → open_answer m b p ≡ Refused Pins
+  pub open_spi_pins : m ≤ 4 → b ≤ 1 → (b ≡ 0 → ⊥) → 0 < p → open_answer m b p ≡ Err Pins
   unfolding open_answer
   open_spi_pins hm hb n h = rw (le-ltb 4 m hm, le-ltb 1 b hb, eq-eqb b 1 (omega arith), lt-ltb 0 p h) (either (ltb 3 p))
     where
-      either : (x : Bool) → cond (x || true) (Refused Pins) Accepted ≡ Refused Pins
+      either : (x : Bool) → cond (x || true) (Err Pins) (Ok (tt {0})) ≡ Err Pins
       either true = refl
       either false = refl
 
-  pub open_spi : m ≤ 4 → b ≤ 1 → p ≤ 0 → open_answer m b p ≡ Accepted
+  pub open_spi : m ≤ 4 → b ≤ 1 → p ≤ 0 → open_answer m b p ≡ Ok tt
   unfolding open_answer
   open_spi hm hb h = rw (le-ltb 4 m hm, le-ltb 1 b hb, le-ltb 3 p (omega arith), le-ltb 0 p h) (either (eqb b 1))
     where
-      either : (x : Bool) → cond (false || (x && false)) (Refused Pins) Accepted ≡ Accepted
+      either : (x : Bool) → cond (false || (x && false)) (Err Pins) (Ok (tt {0})) ≡ Ok (tt {0})
       either true = refl
       either false = refl
 

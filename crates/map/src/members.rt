@@ -2,29 +2,30 @@
 ghost use Rattle.std.specs.Prelude.{◌≡◌, ◌≤◌, ◌<◌};
 ghost use Rattle.map.specs.Map.{lines_of, columns_of, switch_bytes_of, first_masks, first_mask, first_resets, first_reset};
 
-const LINES: [usize; 5] = [11, 1, 4, 7, 8];
+static LINES: [usize; 5] = [11, 1, 4, 7, 8];
 
 // Bit s is set where the member has sink s.
-const COLUMNS: [u32; 5] = [0x3FFFF, 0x3FFFF, 0x3FFFF, 0x30303, 0x3FFFF];
+static COLUMNS: [u32; 5] = [0x3FFFF, 0x3FFFF, 0x3FFFF, 0x30303, 0x3FFFF];
 
 // How many switch bytes, from 043h on, the member's summary table lists. The LP5864 lists one more than its lines have.
-const SWITCH_BYTES: [usize; 5] = [33, 3, 13, 21, 24];
+static SWITCH_BYTES: [usize; 5] = [33, 3, 13, 21, 24];
 
 // The reserved bits of 000h to 00Bh, and those of the LP5861T, whose summary table adds some.
-const COMMON_MASKS: [u8; 12] = [
+static COMMON_MASKS: [u8; 12] = [
     0xFE, 0x80, 0xF0, 0x00, 0x00, 0x00, 0x00, 0x00, 0x00, 0x80, 0x80, 0x80,
 ];
 
-const LP5861T_MASKS: [u8; 12] = [
+static LP5861T_MASKS: [u8; 12] = [
     0xFE, 0xF8, 0xF9, 0x03, 0xF1, 0x00, 0x00, 0x00, 0x00, 0x80, 0x80, 0x80,
 ];
 
 // The reset values of 000h to 00Bh: all five summary tables have the same.
-const COMMON_RESETS: [u8; 12] = [
+static COMMON_RESETS: [u8; 12] = [
     0x00, 0x5E, 0x00, 0x00, 0x47, 0xFF, 0xFF, 0xFF, 0xFF, 0x40, 0x40, 0x40,
 ];
 
 // The scan lines of a member; a code above 4 has none.
+#[tactic(auto, unfolding(crate::specs::Map::lines_of))]
 pub fn lines(member: usize) -> usize
     ensures { (result ≡ lines_of member) × (result ≤ 11) }
 {
@@ -32,70 +33,58 @@ pub fn lines(member: usize) -> usize
 }
 
 // The column set of a member.
+#[tactic(auto, unfolding(crate::specs::Map::columns_of))]
 pub fn columns(member: usize) -> u32
     ensures { result ≡ columns_of member }
 {
     if member < 5 { COLUMNS[member] } else { 0 }
 }
 
+#[tactic(auto, unfolding(crate::specs::Map::switch_bytes_of))]
 pub fn switch_bytes(member: usize) -> usize
     ensures { result ≡ switch_bytes_of member }
 {
     if member < 5 { SWITCH_BYTES[member] } else { 0 }
 }
 
-// The reserved bits of the first twelve registers, a row a member. A row is a constant of its own: at an index a table of rows would be
-// built on the stack in each call.
+// The reserved bits of the first twelve registers.
+#[tactic(auto, unfolding(crate::specs::Map::first_masks))]
 pub fn first_masks(member: usize) -> [u8; 12]
     ensures { result ≡ first_masks member }
 {
-    match member {
-        0 => COMMON_MASKS,
-        1 => LP5861T_MASKS,
-        2 => COMMON_MASKS,
-        3 => COMMON_MASKS,
-        4 => COMMON_MASKS,
-        _ => COMMON_MASKS,
+    if member == 1 {
+        LP5861T_MASKS
+    } else {
+        COMMON_MASKS
     }
 }
 
-// The reset values of the first twelve registers, a row a member.
-pub fn first_resets(member: usize) -> [u8; 12]
+// The reset values of the first twelve registers, of any member.
+pub fn first_resets(_member: usize) -> [u8; 12]
     ensures { result ≡ first_resets }
 {
-    match member {
-        0 => COMMON_RESETS,
-        1 => COMMON_RESETS,
-        2 => COMMON_RESETS,
-        3 => COMMON_RESETS,
-        4 => COMMON_RESETS,
-        _ => COMMON_RESETS,
-    }
+    COMMON_RESETS
 }
 
 // The reserved bits of one of them; all bits elsewhere.
+#[tactic(auto, unfolding(crate::specs::Map::first_mask))]
 pub(crate) fn first_mask(member: usize, address: usize) -> u8
     ensures { result ≡ first_mask member address }
 {
-    if 4 < member {
-        return 255;
+    if member < 5 && address < 12 {
+        first_masks(member)[address]
+    } else {
+        255
     }
-    if 11 < address {
-        return 255;
-    }
-    let masks = first_masks(member);
-    masks[address]
 }
 
+#[tactic(auto, unfolding(crate::specs::Map::first_reset))]
 pub(crate) fn first_reset(member: usize, address: usize) -> u8
     ensures { result ≡ first_reset member address }
 {
-    if 4 < member {
-        return 0;
+    if member < 5 && address < 12 {
+        first_resets(member)[address]
+    } else {
+        0
     }
-    if 11 < address {
-        return 0;
-    }
-    let resets = first_resets(member);
-    resets[address]
 }

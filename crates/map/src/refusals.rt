@@ -2,132 +2,103 @@
 ghost use Rattle.std.specs.Prelude.{[], ◌∷◌, ◌≡◌};
 ghost use Rattle.map.specs.Refusals.{refusal_number, answer_number, numbers_of, open_answer};
 
-#[derive(Clone, Copy)]
+#[derive(Clone, Copy, PartialEq, Eq)]
 pub enum Refusal {
     // a member above 4
-    Member,
+    Member = 1,
     // a bus above 1
-    Bus,
+    Bus = 2,
     // pins above 3, or not 0 on SPI
-    Pins,
+    Pins = 3,
     // an address that is not writable
-    NotWritable,
+    NotWritable = 4,
     // a reserved bit that differs from its reset value
-    ReservedBit,
+    ReservedBit = 5,
     // a dot that the member has not
-    NoDot,
+    NoDot = 6,
     // a level above what the data mode holds
-    Level,
+    Level = 7,
     // a group above 3, a state above 1
-    GroupOrState,
+    GroupOrState = 8,
     // a scene whose length is not that of its entries
-    SceneLength,
+    SceneLength = 9,
     // a buffer that is too short
-    BufferShort,
+    BufferShort = 10,
     // a list whose sizes do not add up
-    ListSizes,
+    ListSizes = 11,
     // fault bytes that are not 67
-    FaultLength,
+    FaultLength = 13,
     // a record or a chip that is not sound
-    Unsound,
+    Unsound = 14,
     // a round of under 12 or above 4,096 bus bytes
-    RoundLimit,
+    RoundLimit = 15,
     // a present record of a round on SPI, or whose pins are not its place
-    NotItsPlace,
+    NotItsPlace = 16,
     // a register that the record's lock keeps
-    Locked,
+    Locked = 17,
     // a record that is locked, or whose chip is off or has not its settings in the registers that a lock keeps
-    NotLockable,
+    NotLockable = 18,
     // an index of n or more, of a list of n transactions
-    NoTransaction,
+    NoTransaction = 26,
 }
 
 pub fn refusal_number(refusal: Refusal) -> u8
     ensures { result ≡ refusal_number refusal }
 {
-    match refusal {
-        Refusal::Member => 1,
-        Refusal::Bus => 2,
-        Refusal::Pins => 3,
-        Refusal::NotWritable => 4,
-        Refusal::ReservedBit => 5,
-        Refusal::NoDot => 6,
-        Refusal::Level => 7,
-        Refusal::GroupOrState => 8,
-        Refusal::SceneLength => 9,
-        Refusal::BufferShort => 10,
-        Refusal::ListSizes => 11,
-        Refusal::FaultLength => 13,
-        Refusal::Unsound => 14,
-        Refusal::RoundLimit => 15,
-        Refusal::NotItsPlace => 16,
-        Refusal::Locked => 17,
-        Refusal::NotLockable => 18,
-        Refusal::NoTransaction => 26,
-    }
+    refusal as u8
 }
 
 // What a call answers that hands back no value of its own.
-#[derive(Clone, Copy)]
-pub enum Answer {
-    Accepted,
-    Refused(Refusal),
-}
+pub type Answer = Result<(), Refusal>;
 
 // 0 where the call is accepted, else the refusal's number.
 pub fn answer_number(answer: Answer) -> u8
     ensures { result ≡ answer_number answer }
 {
     match answer {
-        Answer::Accepted => 0,
-        Answer::Refused(refusal) => refusal_number(refusal),
+        Ok(()) => 0,
+        Err(refusal) => refusal_number(refusal),
     }
 }
 
-// The number of an answer, 0 or a refusal's, and the values that come with it: the first `count` of the five numbers. (Fields, since an
-// enum holds no struct that has an array.)
+// The number of an answer, 0 or a refusal's, and the values that come with it: the first `count` of five numbers.
 #[derive(Clone, Copy)]
 pub struct Numbers {
     pub count: usize,
-    pub number: usize,
-    pub first: usize,
-    pub second: usize,
-    pub third: usize,
-    pub fourth: usize,
+    pub values: [usize; 5],
 }
 
 // `N`
+#[tactic(auto, unfolding(crate::specs::Refusals::numbers_of))]
 pub fn number_alone(number: usize) -> Numbers
     ensures { result ≡ numbers_of (number ∷ []) }
 {
     Numbers {
         count: 1,
-        number: number,
-        first: 0,
-        second: 0,
-        third: 0,
-        fourth: 0,
+        values: [number, 0, 0, 0, 0],
     }
 }
 
 // `N V`
+#[tactic(auto, unfolding(crate::specs::Refusals::numbers_of))]
 pub fn with_value(number: usize, first: usize) -> Numbers
     ensures { result ≡ numbers_of (number ∷ first ∷ []) }
 {
-    let mut numbers = number_alone(number);
-    numbers.count = 2;
-    numbers.first = first;
-    numbers
+    Numbers {
+        count: 2,
+        values: [number, first, 0, 0, 0],
+    }
 }
 
 // `N V W`
+#[tactic(auto, unfolding(crate::specs::Refusals::numbers_of))]
 pub fn with_values(number: usize, first: usize, second: usize) -> Numbers
     ensures { result ≡ numbers_of (number ∷ first ∷ second ∷ []) }
 {
-    let mut numbers = with_value(number, first);
-    numbers.count = 3;
-    numbers.second = second;
-    numbers
+    Numbers {
+        count: 3,
+        values: [number, first, second, 0, 0],
+    }
 }
 
 // The number alone.
@@ -138,23 +109,18 @@ pub fn answer_numbers(answer: Answer) -> Numbers
 }
 
 // What Open answers to a member, a bus (0 I2C, 1 SPI) and pins.
+#[tactic(auto, unfolding(crate::specs::Refusals::open_answer))]
 pub fn open_answer(member: usize, bus: usize, pins: usize) -> Answer
     ensures { result ≡ open_answer member bus pins }
 {
     if 4 < member {
-        return Answer::Refused(Refusal::Member);
+        return Err(Refusal::Member);
     }
     if 1 < bus {
-        return Answer::Refused(Refusal::Bus);
+        return Err(Refusal::Bus);
     }
-    if 3 < pins {
-        return Answer::Refused(Refusal::Pins);
+    if 3 < pins || (bus == 1 && 0 < pins) {
+        return Err(Refusal::Pins);
     }
-    if bus == 0 {
-        return Answer::Accepted;
-    }
-    if 0 < pins {
-        return Answer::Refused(Refusal::Pins);
-    }
-    Answer::Accepted
+    Ok(())
 }
