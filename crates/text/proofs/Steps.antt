@@ -2,14 +2,14 @@
 -- Assumes nothing.
 use mathlib.Core.Path.{◌≡◌, refl, sym, ap, ◌∙◌}
 use mathlib.Core.List.{List, [], ◌∷◌, ◌++◌}
-use Prim.Native.Nat.{ℕ, ◌+◌, ◌/◌, ◌%◌, ◌<◌, ◌≤◌}
+use Prim.Native.Nat.{ℕ, ◌+◌, ◌-◌, ◌/◌, ◌%◌, ◌<◌, ◌≤◌}
 use native.Mathlib.Numerals.{add-one}
 use native.Mathlib.Omega.{arith}
 use borrow.Author.Tests.{lt-ltb, le-ltb, eq-eqb, ne_eqb}
 use lib.ListN.{length, get_or, set, drop, drop_of_length-le}
 use lib.Seq.{drop-cons, set_out}
 use Rattle.text.specs.Text.{placed, place_after, Puts, digit, byte_text, address_text, decimal_text, each_text, spaced_text, bytes_text}
-use Rattle.text.specs.TextLaws.{next_inside, next_behind, puts_length, puts_then, puts_as, Putting, putting_none, putting_more, putting_all, decimal_small, decimal_more}
+use Rattle.text.specs.TextLaws.{next_inside, next_behind, puts_then, puts_as, Putting, putting_more, putting_all, decimal_small, decimal_more}
 
 -- ---- one byte
 
@@ -27,9 +27,9 @@ pub digit_low : (v d : ℕ) → d ≡ v % 16 → d < 10 → 0x30 + d ≡ digit v
 unfolding digit
 digit_low v d e h = rw (← e, lt-ltb d 10 h) refl
 
-pub digit_high : (v d : ℕ) → d ≡ v % 16 → 10 ≤ d → 0x37 + d ≡ digit v
+pub digit_high : (v d : ℕ) → d ≡ v % 16 → 10 ≤ d → 0x41 + (d - 10) ≡ digit v
 unfolding digit
-digit_high v d e h = rw (← e, le-ltb d 10 h) refl
+digit_high v d e h = rw (← e, le-ltb d 10 h) (omega arith)
 
 module _ (old : List ℕ) (at : ℕ) (mid : List ℕ) (next : ℕ) (new : List ℕ) (r : ℕ) where
   pub byte_put : (v d e : ℕ) → d ≡ digit (v / 16) → Puts old at (d ∷ []) mid next → e ≡ digit v → Puts mid next (e ∷ []) new r →
@@ -59,26 +59,18 @@ each_step : (f : ℕ → List ℕ) (bytes : List ℕ) (i : ℕ) → i < length b
 unfolding each_text
 each_step f bytes i h = ap (each_text f) (drop-cons bytes i 0 h) ∙ ap (λ (k : ℕ). f (get_or bytes i 0) ++ each_text f (drop k bytes)) (sym (add-one i))
 
--- i bytes are put, each as f has it
-pub record Each (f : ℕ → List ℕ) (old : List ℕ) (at : ℕ) (bytes text : List ℕ) (next i : ℕ) : Type 0 where
-  pub below : i ≤ length bytes
-  pub same : length text ≡ length old
-  pub left : Putting old at (each_text f bytes) (each_text f (drop i bytes)) text next
+-- i bytes are put, each as f has it, and the others are left
+abbrev pub Each : (ℕ → List ℕ) → List ℕ → ℕ → List ℕ → List ℕ → ℕ → ℕ → Type 0
+Each f old at bytes text next i = Putting old at (each_text f bytes) (each_text f (drop i bytes)) text next
 
-pub each_none : (f : ℕ → List ℕ) (old : List ℕ) (at : ℕ) (bytes : List ℕ) → Each f old at bytes old at 0
-each_none f old at bytes = record { below = omega arith; same = refl; left = putting_none old at (each_text f bytes) }
+pub each_more : (f : ℕ → List ℕ) (old : List ℕ) (at : ℕ) (bytes text : List ℕ) (next i : ℕ) (new : List ℕ) (r : ℕ) → i < length bytes →
+    Each f old at bytes text next i → Puts text next (f (get_or bytes i 0)) new r → Each f old at bytes new r (i + 1)
+each_more f old at bytes text next i new r h e p =
+    putting_more old at (each_text f bytes) text next (f (get_or bytes i 0)) (each_text f (drop (i + 1) bytes)) new r (rw (each_step f bytes i h) at e) p
 
-module _ (f : ℕ → List ℕ) (old : List ℕ) (at : ℕ) (bytes text : List ℕ) (next i : ℕ) (e : Each f old at bytes text next i) where
-  pub each_more : (new : List ℕ) (r : ℕ) → i < length bytes → Puts text next (f (get_or bytes i 0)) new r → Each f old at bytes new r (i + 1)
-  each_more new r h p = record {
-    below = omega arith;
-    same = puts_length text next (f (get_or bytes i 0)) new r p ∙ e.same;
-    left = putting_more old at (each_text f bytes) text next (f (get_or bytes i 0)) (each_text f (drop (i + 1) bytes)) new r (rw (each_step f bytes i h) at e.left) p;
-  }
-
-  pub each_all : length bytes ≤ i → Puts old at (each_text f bytes) text next
-  unfolding each_text
-  each_all h = putting_all old at (each_text f bytes) text next (rw (drop_of_length-le bytes h) at e.left)
+pub each_all : (f : ℕ → List ℕ) (old : List ℕ) (at : ℕ) (bytes text : List ℕ) (next i : ℕ) → length bytes ≤ i → Each f old at bytes text next i → Puts old at (each_text f bytes) text next
+unfolding each_text
+each_all f old at bytes text next i h e = putting_all old at (each_text f bytes) text next (rw (drop_of_length-le bytes h) at e)
 
 -- bytes as they are
 each_byte : (bytes : List ℕ) → each_text (λ v. v ∷ []) bytes ≡ bytes
@@ -86,9 +78,8 @@ unfolding each_text
 each_byte [] = refl
 each_byte (v ∷ vs) = ap (λ (l : List ℕ). v ∷ l) (each_byte vs)
 
-pub text_all : (old : List ℕ) (at : ℕ) (bytes text : List ℕ) (next i : ℕ) → Each (λ v. v ∷ []) old at bytes text next i → length bytes ≤ i → Puts old at bytes text next
-text_all old at bytes text next i e h =
-    puts_as old at (each_text (λ v. v ∷ []) bytes) bytes text next (each_byte bytes) (each_all (λ v. v ∷ []) old at bytes text next i e h)
+pub text_all : (old : List ℕ) (at : ℕ) (bytes text : List ℕ) (next : ℕ) → Puts old at (each_text (λ v. v ∷ []) bytes) text next → Puts old at bytes text next
+text_all old at bytes text next p = puts_as old at (each_text (λ v. v ∷ []) bytes) bytes text next (each_byte bytes) p
 
 -- ---- byte strings
 

@@ -24,6 +24,10 @@ pub record Puts (old : List ℕ) (at : ℕ) (text new : List ℕ) (r : ℕ) : Ty
   pub buffer : new ≡ placed old at text
   pub place : r ≡ place_after (length old) at text
 
+-- a function that puts one byte, with what a call of it may do (`post`), puts the text that `shape` has of the byte
+abbrev pub PutsOne : {Buffer : Type 0} → (Buffer → ℕ → ℕ → ℕ → Buffer → Type 0) → (Buffer → List ℕ) → (ℕ → List ℕ) → Type 0
+PutsOne {Buffer} post bytes shape = (old : Buffer) (at byte r : ℕ) (new : Buffer) → post old at byte r new → Puts (bytes old) at (shape byte) (bytes new) r
+
 -- ---- Numbers
 
 -- the last hexadecimal digit of a number, with capitals

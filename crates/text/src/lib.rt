@@ -4,8 +4,8 @@
 // end nothing is put, and the place stays.
 #![tactic(auto)]
 
-ghost use Rattle.std.specs.Prelude.{◌≡◌, [], ◌∷◌};
-ghost use Rattle.text.specs.Text.{Puts, digit, byte_text, address_text, spaced_text, spaced_bytes_text, bytes_text, decimal_text, each_text};
+ghost use Rattle.std.specs.Prelude.{◌≡◌, ℕ, List, [], ◌∷◌};
+ghost use Rattle.text.specs.Text.{Puts, PutsOne, digit, byte_text, address_text, spaced_text, spaced_bytes_text, bytes_text, decimal_text, each_text};
 
 // One byte.
 pub fn put(text: &mut [u8], at: usize, byte: u8) -> usize
@@ -23,7 +23,7 @@ fn digit_of(value: usize) -> u8
     ensures { result ≡ digit value }
 {
     let d = (value % 16) as u8;
-    if d < 10 { 0x30 + d } else { 0x37 + d }
+    if d < 10 { b'0' + d } else { b'A' + (d - 10) }
 }
 
 // A byte as two hexadecimal digits.
@@ -53,39 +53,38 @@ pub fn put_decimal(text: &mut [u8], at: usize, value: usize) -> usize
     put(text, next, digit_of(value % 10))
 }
 
-// The bytes as they are.
-pub fn put_text(text: &mut [u8], at: usize, bytes: &[u8]) -> usize
-    ensures { Puts text.old at bytes.now text.new result }
+// The bytes, each as `put_one` puts it, one behind the other.
+fn put_each<F: Fn(&mut [u8], usize, u8) -> usize>(
+    text: &mut [u8],
+    at: usize,
+    bytes: &[u8],
+    put_one: F,
+) -> usize
+    requires { F.IsAlwaysCallable put_one }
+    ensures { (shape : ℕ → List ℕ) → PutsOne (F.post put_one) (λ t. t.now) shape → Puts text.old at (each_text shape bytes.now) text.new result }
 {
     let mut next = at;
-    let mut i: usize = 0;
-    while i < bytes.len() {
-        next = put(text, next, bytes[i]);
-        i += 1;
+    for byte in bytes {
+        next = put_one(text, next, *byte);
     }
     next
 }
 
-fn put_pairs(text: &mut [u8], at: usize, bytes: &[u8]) -> usize
-    ensures { Puts text.old at (each_text byte_text bytes.now) text.new result }
+// The bytes as they are.
+pub fn put_text(text: &mut [u8], at: usize, bytes: &[u8]) -> usize
+    ensures { Puts text.old at bytes.now text.new result }
 {
-    let mut next = at;
-    let mut i: usize = 0;
-    while i < bytes.len() {
-        next = put_byte(text, next, bytes[i]);
-        i += 1;
-    }
-    next
+    put_each(text, at, bytes, put)
 }
 
 // A byte string as pairs of hexadecimal digits with nothing between; `-` where it is empty.
 pub fn put_bytes(text: &mut [u8], at: usize, bytes: &[u8]) -> usize
     ensures { Puts text.old at (bytes_text bytes.now) text.new result }
 {
-    if bytes.len() == 0 {
+    if bytes.is_empty() {
         return put(text, at, b'-');
     }
-    put_pairs(text, at, bytes)
+    put_each(text, at, bytes, put_byte)
 }
 
 fn put_spaced(text: &mut [u8], at: usize, value: u8) -> usize
@@ -99,11 +98,5 @@ fn put_spaced(text: &mut [u8], at: usize, value: u8) -> usize
 pub fn put_spaced_bytes(text: &mut [u8], at: usize, bytes: &[u8]) -> usize
     ensures { Puts text.old at (spaced_bytes_text bytes.now) text.new result }
 {
-    let mut next = at;
-    let mut i: usize = 0;
-    while i < bytes.len() {
-        next = put_spaced(text, next, bytes[i]);
-        i += 1;
-    }
-    next
+    put_each(text, at, bytes, put_spaced)
 }
