@@ -9,10 +9,10 @@ use native.Mathlib.Omega.{arith}
 use lib.Bits.{bit_and, and_mask}
 use lib.Pow.{pow_pos, shr_le}
 use lib.ListN.{get_or, set}
+use Rattle.std.proofs.Common.{Option, Some, None}
 use Rattle.map.specs.declared.dots.Field.{Field}
 use Rattle.map.specs.declared.dots.Field.TheVariants.{Group, Switch, Open, Short, Current, Pwm8, Pwm16}
 use Rattle.map.specs.declared.dots.Place.{Place}
-use Rattle.map.specs.declared.dots.Place.TheVariants.{At, Absent}
 use Rattle.map.specs.Map.{is_dot, address_of, shift_of, width_of, place_as, place_of, data_mode, is_wide}
 use Rattle.dots.specs.Dots.{wide_of, top_level, level_of, put_level, put_bits, field_of, put_field}
 use Rattle.dots.specs.Bits.{bits_in}
@@ -54,28 +54,30 @@ pub record Placed (f : Field) (m l s a x : ℕ) : Type 0 where
   pub address : a ≡ address_of f l s
   pub shift : x ≡ shift_of f s
 
-module _ (f : Field) (m l s : ℕ) (place : Place) (e : place ≡ place_of f m l s) where
-  pub at_place : (a x : ℕ) → place ≡ At a x → Placed f m l s a x
+abbrev at_byte : ℕ → ℕ → Place
+at_byte a x = record { address = a; shift = x }
+
+module _ (f : Field) (m l s : ℕ) (place : Option Place) (e : place ≡ place_of f m l s) where
+  pub at_place : (a x : ℕ) → place ≡ Some (at_byte a x) → Placed f m l s a x
   unfolding place_of place_as
   at_place a x ea = go (is_dot m l s) refl
     where
       go : (b : Bool) → is_dot m l s ≡ b → Placed f m l s a x
       go true d =
-          let q : At a x ≡ At (address_of f l s) (shift_of f s) = sym ea ∙ e ∙ rw d refl in
-          let ha : a ≡ address_of f l s = cc in
-          let hx : x ≡ shift_of f s = cc in
-          record { dot = d; address = ha; shift = hx }
+          let q : Some (at_byte a x) ≡ Some (at_byte (address_of f l s) (shift_of f s)) = sym ea ∙ e ∙ rw d refl in
+          let p : at_byte a x ≡ place_as f l s = cc in
+          record { dot = d; address = ap (λ (r : Place). r.address) p; shift = ap (λ (r : Place). r.shift) p }
       go false d =
-          let q : At a x ≡ Absent = sym ea ∙ e ∙ rw d refl in
+          let q : ◌≡◌ {A = Option Place} (Some (at_byte a x)) None = sym ea ∙ e ∙ rw d refl in
           let z : ◌≡◌ {A = ℕ} 0 1 = cc in absurd (omega arith)
 
-  pub no_dot : place ≡ Absent → is_dot m l s ≡ false
+  pub no_dot : place ≡ None → is_dot m l s ≡ false
   unfolding place_of place_as
   no_dot ea = go (is_dot m l s) refl
     where
       go : (b : Bool) → is_dot m l s ≡ b → is_dot m l s ≡ false
       go true d =
-          let q : Absent ≡ At (address_of f l s) (shift_of f s) = sym ea ∙ e ∙ rw d refl in
+          let q : ◌≡◌ {A = Option Place} None (Some (at_byte (address_of f l s) (shift_of f s))) = sym ea ∙ e ∙ rw d refl in
           let z : ◌≡◌ {A = ℕ} 0 1 = cc in absurd (omega arith)
       go false d = d
 

@@ -16,21 +16,16 @@ use map::{Field, Place};
 fn byte_at(image: &[u8], address: usize) -> u8
     ensures { result ≡ get_or image.now address 0 }
 {
-    if address < image.len() {
-        image[address]
-    } else {
-        0
-    }
+    image.get(address).copied().unwrap_or(0)
 }
 
 // Beyond the end nothing is stored.
 fn put_byte(image: &mut [u8], address: usize, value: u8)
     ensures { image.new ≡ set image.old address value }
 {
-    if image.len() <= address {
-        return;
+    if address < image.len() {
+        image[address] = value;
     }
-    image[address] = value;
 }
 
 // Whether a byte of 001h has a data mode of 16-bit levels.
@@ -108,17 +103,14 @@ fn put_word(image: &mut [u8], at: usize, low: u8, high: u8)
 }
 
 // The bits of a field in its byte, moved down to bit 0.
+#[tactic(auto, unfolding(crate::specs::Bits::bits_in, map::specs::Map::width_of))]
 fn mask_of(which: Field) -> u8
     ensures { result ≡ 2 ^ bits_in which - 1 }
 {
     match which {
         Field::Group => 3,
-        Field::Switch => 1,
-        Field::Open => 1,
-        Field::Short => 1,
-        Field::Current => 255,
-        Field::Pwm8 => 255,
-        Field::Pwm16 => 255,
+        Field::Switch | Field::Open | Field::Short => 1,
+        Field::Current | Field::Pwm8 | Field::Pwm16 => 255,
     }
 }
 
@@ -136,8 +128,7 @@ fn put_bits(which: Field, byte: u8, shift: usize, value: u8) -> u8
 pub fn field(which: Field, member: usize, image: &[u8], line: usize, sink: usize) -> u8
     ensures { result ≡ cond (is_dot member line sink) (field_of which image.now line sink) 0 }
 {
-    let place = map::place_of(which, member, line, sink);
-    let Place::At { address, shift } = place else {
+    let Some(Place { address, shift }) = map::place_of(which, member, line, sink) else {
         return 0;
     };
     (byte_at(image, address) >> shift) & mask_of(which)
@@ -147,8 +138,7 @@ pub fn field(which: Field, member: usize, image: &[u8], line: usize, sink: usize
 pub fn put_field(which: Field, member: usize, image: &mut [u8], line: usize, sink: usize, value: u8)
     ensures { image.new ≡ cond (is_dot member line sink) (put_field which image.old line sink (value % 2 ^ width_of which)) image.old }
 {
-    let place = map::place_of(which, member, line, sink);
-    let Place::At { address, shift } = place else {
+    let Some(Place { address, shift }) = map::place_of(which, member, line, sink) else {
         return;
     };
     let byte = byte_at(image, address);

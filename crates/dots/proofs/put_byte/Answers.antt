@@ -4,5 +4,5 @@ use mathlib.Core.Path.{sym}
 use lib.Seq.{set_out}
 use Rattle.dots.proofs.put_byte.Goals as goal
 
-pub returns-then-image-address : goal.returns-then-image-address
-returns-then-image-address c = sym (set_out _ _ _ c.if-image-address.true)
+pub returns-else-address-image : goal.returns-else-address-image
+returns-else-address-image c = sym (set_out _ _ _ c.if-address-image.false)

@@ -6,12 +6,12 @@ use borrow.Author.Rules.{rules}
 use Rattle.dots.proofs.put_field.Goals as goal
 
 pub returns-in_default : goal.returns-in_default
-returns-in_default c = rw (no_dot _ _ _ _ _ c.place_of-place.ensures c.in_default.is) refl
+returns-in_default c = rw (no_dot _ _ _ _ _ c.place_of.ensures c.in_default.is) refl
 
 pub put_bits-requires : goal.put_bits-requires
-put_bits-requires c = place_fits _ _ _ _ _ _ (at_place _ _ _ _ _ c.place_of-place.ensures _ _ c.in-At.is)
+put_bits-requires c = place_fits _ _ _ _ _ _ (at_place _ _ _ _ _ c.place_of.ensures _ _ c.in-Some.is)
 
 pub returns : goal.returns
 returns c =
-    let at = at_place _ _ _ _ _ c.place_of-place.ensures _ _ c.in-At.is in
+    let at = at_place _ _ _ _ _ c.place_of.ensures _ _ c.in-Some.is in
     field_put _ _ _ _ _ _ at _ _ c.byte_at-byte.ensures (search rules) _ _ _ (search rules) c.put_bits.ensures c.put_byte.ensures
