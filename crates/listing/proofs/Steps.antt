@@ -5,11 +5,14 @@ use mathlib.Core.List.{List, [], ◌∷◌, ◌++◌}
 use Prim.Native.Nat.{ℕ, ◌+◌, ◌-◌, ◌*◌, ◌<◌, ◌≤◌}
 use native.Mathlib.Nat.{sub-zero}
 use native.Mathlib.Omega.{arith}
-use borrow.Author.Tests.{ne_eqb, le-leb, lt-leb}
+use borrow.Author.Tests.{le-leb, lt-leb}
+use lib.Dec.{eqb}
+use mathlib.Core.Bool.{Bool, true, false, not}
+use mir.Val.{bool_byte}
 use lib.ListN.{length, get_or, take, drop}
 use Rattle.burst.specs.declared.sizes.Sizes.{Sizes}
-use Rattle.burst.specs.declared.sizes.Sizes.TheVariants.{Good, Bad}
-use Rattle.burst.specs.Burst.{size16, lengths_from, lengths, cut_from, transactions, sizes_of, head_address}
+use Rattle.std.specs.Prelude.{Option, None}
+use Rattle.burst.specs.Burst.{size16, lengths_from, lengths, cut_from, transactions, sized, sizes_of, head_address}
 use Rattle.burst.specs.PlaceLaws.{first_byte, second_byte, data_bytes_lem}
 use Rattle.burst.specs.BurstLaws.{lengths_none, lengths_step, GoodSizes, sizes_good_lem, sizes_bad, Rest, rest_all, rest_first, rest_next}
 use Rattle.text.specs.Text.{Puts, address_text, decimal_text, spaced_bytes_text}
@@ -32,12 +35,13 @@ sizes_put old at a i b j new r n t p q s = puts_three old at (decimal_text n) a 
 -- ---- a transaction
 
 -- bus 0 has I2C heads, every other one SPI heads
-pub i2c_address : (bus h0 h1 : ℕ) → bus ≡ 0 → head_address 0 h0 h1 ≡ head_address bus h0 h1
-i2c_address bus h0 h1 e = rw e refl
-
-pub spi_address : (bus h0 h1 : ℕ) → (bus ≡ 0 → ⊥) → head_address 1 h0 h1 ≡ head_address bus h0 h1
+pub address_by_bus : (bus h0 h1 : ℕ) → head_address (bool_byte (not (eqb bus 0))) h0 h1 ≡ head_address bus h0 h1
 unfolding head_address
-spi_address bus h0 h1 h = rw (ne_eqb bus 0 h) refl
+address_by_bus bus h0 h1 = go (eqb bus 0) refl
+  where
+    go : (b : Bool) → eqb bus 0 ≡ b → head_address (bool_byte (not b)) h0 h1 ≡ head_address bus h0 h1
+    go true e = rw e refl
+    go false e = rw e refl
 
 module _ (bus q k : ℕ) (l : List ℕ) (three : 3 ≤ k) (inside : q + k ≤ length l) where
   -- the bytes behind the head of a transaction that stands at q of a list
@@ -122,14 +126,14 @@ module _ (separator : List ℕ) (bus : ℕ) where
 
 -- ---- the whole text
 
-module _ (l : List ℕ) (s : Sizes) (read : s ≡ sizes_of l) where
-  pub separates_bad : (separator : List ℕ) (bus : ℕ) (old : List ℕ) (at : ℕ) (new : List ℕ) (r : ℕ) → s ≡ Bad → Puts old at refusal_text new r →
+module _ (l : List ℕ) (s : Option Sizes) (read : s ≡ sizes_of l) where
+  pub separates_bad : (separator : List ℕ) (bus : ℕ) (old : List ℕ) (at : ℕ) (new : List ℕ) (r : ℕ) → s ≡ None → Puts old at refusal_text new r →
       Puts old at (separated_text separator bus l) new r
   unfolding separated_text
   separates_bad separator bus old at new r b p =
       puts_as old at refusal_text (separated_text separator bus l) new r (rw (sizes_bad l (sym read ∙ b)) refl) p
 
-  module _ (n t : ℕ) (good : s ≡ Good n t) where
+  module _ (n t : ℕ) (good : s ≡ sized n t) where
     facts : GoodSizes l n t
     facts = sizes_good_lem l n t (sym read ∙ good)
 

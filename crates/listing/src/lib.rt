@@ -18,10 +18,7 @@ use map::Refusal;
 fn address_of(bus: usize, h0: u8, h1: u8) -> usize
     ensures { result ≡ head_address bus h0 h1 }
 {
-    if bus == 0 {
-        return burst::head_address(0, h0, h1);
-    }
-    burst::head_address(1, h0, h1)
+    burst::head_address(u8::from(bus != 0), h0, h1)
 }
 
 // The separator, and the transaction of so many bytes at a place of the list.
@@ -39,9 +36,7 @@ fn put_transaction(
 {
     let next = text::put_text(text, at, separator);
     let next = text::put_address(text, next, address_of(bus, list[from], list[from + 1]));
-    let first = from + 2;
-    let end = from + size;
-    text::put_spaced_bytes(text, next, &list[first..end])
+    text::put_spaced_bytes(text, next, &list[from + 2..from + size])
 }
 
 // Every transaction of a list with good sizes, whose n is at hand.
@@ -59,12 +54,10 @@ fn put_transactions(
 {
     let mut next = at;
     let mut from = 4 + 2 * n;
-    let mut i: usize = 0;
-    while i < n {
+    for i in 0..n {
         let size = burst::size_at(list, 4 + 2 * i);
         next = put_transaction(text, next, separator, bus, list, from, size);
         from += size;
-        i += 1;
     }
     next
 }
@@ -87,8 +80,7 @@ fn put_refusal(text: &mut [u8], at: usize) -> usize
 fn put_separated(text: &mut [u8], at: usize, separator: &[u8], bus: usize, list: &[u8]) -> usize
     ensures { Puts text.old at (separated_text separator.now bus list.now) text.new result }
 {
-    let sizes = burst::read_sizes(list);
-    let Sizes::Good { n, t } = sizes else {
+    let Some(Sizes { n, t }) = burst::read_sizes(list) else {
         return put_refusal(text, at);
     };
     let next = put_sizes(text, at, n, t);
