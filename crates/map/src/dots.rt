@@ -38,11 +38,8 @@ pub fn width_of(field: Field) -> usize
 {
     match field {
         Field::Group => 2,
-        Field::Switch => 1,
-        Field::Open => 1,
-        Field::Short => 1,
-        Field::Current => 8,
-        Field::Pwm8 => 8,
+        Field::Switch | Field::Open | Field::Short => 1,
+        Field::Current | Field::Pwm8 => 8,
         Field::Pwm16 => 16,
     }
 }
@@ -146,9 +143,8 @@ fn place_as(field: Field, line: usize, sink: usize) -> Place
 pub fn place_of(field: Field, member: usize, line: usize, sink: usize) -> Option<Place>
     ensures { result ≡ place_of field member line sink }
 {
-    if is_dot(member, line, sink) {
-        Some(place_as(field, line, sink))
-    } else {
-        None
+    if !is_dot(member, line, sink) {
+        return None;
     }
+    Some(place_as(field, line, sink))
 }

@@ -26,9 +26,9 @@ pub enum Kind {
     Hole,
 }
 
-// The last address of each run is named.
+// The first and the last address of each run are named.
 static KINDS: [Kind; 908] = [
-    Kind::Config,
+    Kind::Config, // 000h
     Kind::Config,
     Kind::Config,
     Kind::Config,
@@ -40,7 +40,7 @@ static KINDS: [Kind; 908] = [
     Kind::Config,
     Kind::Config,
     Kind::Config, // 00Bh
-    Kind::Group,
+    Kind::Group, // 00Ch
     Kind::Group,
     Kind::Group,
     Kind::Group,
@@ -95,7 +95,7 @@ static KINDS: [Kind; 908] = [
     Kind::Group,
     Kind::Group,
     Kind::Group, // 042h
-    Kind::Switch,
+    Kind::Switch, // 043h
     Kind::Switch,
     Kind::Switch,
     Kind::Switch,
@@ -129,7 +129,7 @@ static KINDS: [Kind; 908] = [
     Kind::Switch,
     Kind::Switch, // 063h
     Kind::FaultState, // 064h
-    Kind::Open,
+    Kind::Open, // 065h
     Kind::Open,
     Kind::Open,
     Kind::Open,
@@ -162,7 +162,7 @@ static KINDS: [Kind; 908] = [
     Kind::Open,
     Kind::Open,
     Kind::Open, // 085h
-    Kind::Short,
+    Kind::Short, // 086h
     Kind::Short,
     Kind::Short,
     Kind::Short,
@@ -195,10 +195,10 @@ static KINDS: [Kind; 908] = [
     Kind::Short,
     Kind::Short,
     Kind::Short, // 0A6h
-    Kind::Command,
-    Kind::Command,
-    Kind::Command, // 0A9h
-    Kind::Hole,
+    Kind::Command, // 0A7h: LOD_clear
+    Kind::Command, // 0A8h: LSD_clear
+    Kind::Command, // 0A9h: reset
+    Kind::Hole, // 0AAh
     Kind::Hole,
     Kind::Hole,
     Kind::Hole,
@@ -284,7 +284,7 @@ static KINDS: [Kind; 908] = [
     Kind::Hole,
     Kind::Hole,
     Kind::Hole, // 0FFh
-    Kind::Current,
+    Kind::Current, // 100h
     Kind::Current,
     Kind::Current,
     Kind::Current,
@@ -482,7 +482,7 @@ static KINDS: [Kind; 908] = [
     Kind::Current,
     Kind::Current,
     Kind::Current, // 1C5h
-    Kind::Hole,
+    Kind::Hole, // 1C6h
     Kind::Hole,
     Kind::Hole,
     Kind::Hole,
@@ -540,7 +540,7 @@ static KINDS: [Kind; 908] = [
     Kind::Hole,
     Kind::Hole,
     Kind::Hole, // 1FFh
-    Kind::Pwm,
+    Kind::Pwm, // 200h
     Kind::Pwm,
     Kind::Pwm,
     Kind::Pwm,

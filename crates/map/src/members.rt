@@ -59,8 +59,8 @@ pub fn first_masks(member: usize) -> [u8; 12]
     }
 }
 
-// The reset values of the first twelve registers, of any member.
-pub fn first_resets(_member: usize) -> [u8; 12]
+// The reset values of the first twelve registers: every member's.
+pub fn first_resets() -> [u8; 12]
     ensures { result ≡ first_resets }
 {
     COMMON_RESETS
@@ -83,7 +83,7 @@ pub(crate) fn first_reset(member: usize, address: usize) -> u8
     ensures { result ≡ first_reset member address }
 {
     if member < 5 && address < 12 {
-        first_resets(member)[address]
+        first_resets()[address]
     } else {
         0
     }

@@ -6,14 +6,8 @@ use crate::dots::{has_column, number_in};
 use crate::kinds::{Kind, kind_at};
 use crate::members;
 
-// How far an address lies behind the first of its kind; 0 before it.
-fn offset(address: usize, first: usize) -> usize
-    ensures { result ≡ address - first }
-{
-    if address < first { 0 } else { address - first }
-}
-
 // 1 where a column is absent.
+#[tactic(auto, unfolding(crate::specs::Map::no_sink))]
 fn no_sink(columns: u32, sink: usize) -> u8
     ensures { (result ≡ no_sink columns sink) × (result ≤ 1) }
 {
@@ -28,11 +22,10 @@ pub fn group_mask(columns: u32, q: usize) -> u8
         return 255;
     }
     let s = 4 * q;
-    let a = no_sink(columns, s);
-    let b = no_sink(columns, s + 1);
-    let c = no_sink(columns, s + 2);
-    let d = no_sink(columns, s + 3);
-    a * 3 + b * 12 + c * 48 + d * 192
+    no_sink(columns, s) * 3
+        + no_sink(columns, s + 1) * 12
+        + no_sink(columns, s + 2) * 48
+        + no_sink(columns, s + 3) * 192
 }
 
 // The bits of absent sinks in byte q of the three switch bytes of a line.
@@ -43,18 +36,18 @@ pub fn switch_mask(columns: u32, q: usize) -> u8
         return 255;
     }
     let s = 8 * q;
-    let a = no_sink(columns, s);
-    let b = no_sink(columns, s + 1);
-    let c = no_sink(columns, s + 2);
-    let d = no_sink(columns, s + 3);
-    let e = no_sink(columns, s + 4);
-    let f = no_sink(columns, s + 5);
-    let g = no_sink(columns, s + 6);
-    let h = no_sink(columns, s + 7);
-    a + b * 2 + c * 4 + d * 8 + e * 16 + f * 32 + g * 64 + h * 128
+    no_sink(columns, s)
+        + no_sink(columns, s + 1) * 2
+        + no_sink(columns, s + 2) * 4
+        + no_sink(columns, s + 3) * 8
+        + no_sink(columns, s + 4) * 16
+        + no_sink(columns, s + 5) * 32
+        + no_sink(columns, s + 6) * 64
+        + no_sink(columns, s + 7) * 128
 }
 
 // The reserved bits of the group byte x places behind 00Ch: all of them where its line is absent.
+#[tactic(auto, unfolding(crate::specs::Map::group_reserved))]
 fn group_reserved(lines: usize, columns: u32, x: usize) -> u8
     ensures { result ≡ group_reserved lines columns x }
 {
@@ -65,6 +58,7 @@ fn group_reserved(lines: usize, columns: u32, x: usize) -> u8
     }
 }
 
+#[tactic(auto, unfolding(crate::specs::Map::switch_reserved))]
 fn switch_reserved(lines: usize, columns: u32, x: usize) -> u8
     ensures { result ≡ switch_reserved lines columns x }
 {
@@ -75,6 +69,7 @@ fn switch_reserved(lines: usize, columns: u32, x: usize) -> u8
     }
 }
 
+#[tactic(auto, unfolding(crate::specs::Map::current_reserved))]
 fn current_reserved(lines: usize, columns: u32, x: usize) -> u8
     ensures { result ≡ current_reserved lines columns x }
 {
@@ -82,37 +77,34 @@ fn current_reserved(lines: usize, columns: u32, x: usize) -> u8
 }
 
 // Place x of the levels is dot x in 8 bits and dot x / 2 in 16: either will do.
+#[tactic(auto, unfolding(crate::specs::Map::pwm_reserved))]
 pub fn pwm_reserved(lines: usize, columns: u32, x: usize) -> u8
     ensures { result ≡ pwm_reserved lines columns x }
 {
-    if number_in(lines, columns, x / 2) {
-        return 0;
+    if number_in(lines, columns, x / 2) || number_in(lines, columns, x) {
+        0
+    } else {
+        255
     }
-    if number_in(lines, columns, x) {
-        return 0;
-    }
-    255
 }
 
 // The reserved bits of an address of a known kind, with the member's lines and columns at hand.
+#[tactic(auto, unfolding(crate::specs::Map::reserved_as))]
 pub fn reserved_as(kind: Kind, member: usize, lines: usize, columns: u32, address: usize) -> u8
     ensures { result ≡ reserved_as kind member lines columns address }
 {
     match kind {
         Kind::Config => members::first_mask(member, address),
-        Kind::Group => group_reserved(lines, columns, offset(address, 0x00C)),
-        Kind::Switch => switch_reserved(lines, columns, offset(address, 0x043)),
-        Kind::Current => current_reserved(lines, columns, offset(address, 0x100)),
-        Kind::Pwm => pwm_reserved(lines, columns, offset(address, 0x200)),
-        Kind::FaultState => 255,
-        Kind::Open => 255,
-        Kind::Short => 255,
-        Kind::Command => 255,
-        Kind::Hole => 255,
+        Kind::Group => group_reserved(lines, columns, address.saturating_sub(0x00C)),
+        Kind::Switch => switch_reserved(lines, columns, address.saturating_sub(0x043)),
+        Kind::Current => current_reserved(lines, columns, address.saturating_sub(0x100)),
+        Kind::Pwm => pwm_reserved(lines, columns, address.saturating_sub(0x200)),
+        Kind::FaultState | Kind::Open | Kind::Short | Kind::Command | Kind::Hole => 255,
     }
 }
 
 // The reserved bits of an address: all of them where it is not writable.
+#[tactic(auto, unfolding(crate::specs::Map::reserved_of))]
 pub fn reserved(member: usize, address: usize) -> u8
     ensures { result ≡ reserved_of member address }
 {
@@ -125,6 +117,7 @@ pub fn reserved(member: usize, address: usize) -> u8
     )
 }
 
+#[tactic(auto, unfolding(crate::specs::Map::writable_of))]
 pub fn writable(member: usize, address: usize) -> bool
     ensures { result ≡ writable_of member address }
 {
@@ -132,16 +125,21 @@ pub fn writable(member: usize, address: usize) -> bool
 }
 
 // FFh FFh 03h, over and over, as far as the summary table lists switch bytes.
+#[tactic(auto, unfolding(crate::specs::Map::switch_reset))]
 pub fn switch_reset(listed: usize, x: usize) -> u8
     ensures { result ≡ switch_reset listed x }
 {
     if listed <= x {
-        return 0;
+        0x00
+    } else if x % 3 == 2 {
+        0x03
+    } else {
+        0xFF
     }
-    if x % 3 == 2 { 0x03 } else { 0xFF }
 }
 
 // 80h at every dot number of the member's lines, absent sinks included.
+#[tactic(auto, unfolding(crate::specs::Map::current_reset))]
 pub fn current_reset(lines: usize, x: usize) -> u8
     ensures { result ≡ current_reset lines x }
 {
@@ -149,23 +147,19 @@ pub fn current_reset(lines: usize, x: usize) -> u8
 }
 
 // The reset value of an address of a known kind.
+#[tactic(auto, unfolding(crate::specs::Map::reset_as))]
 pub fn reset_as(kind: Kind, member: usize, address: usize) -> u8
     ensures { result ≡ reset_as kind member address }
 {
     match kind {
         Kind::Config => members::first_reset(member, address),
-        Kind::Switch => switch_reset(members::switch_bytes(member), offset(address, 0x043)),
-        Kind::Current => current_reset(members::lines(member), offset(address, 0x100)),
-        Kind::Group => 0,
-        Kind::FaultState => 0,
-        Kind::Open => 0,
-        Kind::Short => 0,
-        Kind::Command => 0,
-        Kind::Pwm => 0,
-        Kind::Hole => 0,
+        Kind::Switch => switch_reset(members::switch_bytes(member), address.saturating_sub(0x043)),
+        Kind::Current => current_reset(members::lines(member), address.saturating_sub(0x100)),
+        _ => 0,
     }
 }
 
+#[tactic(auto, unfolding(crate::specs::Map::reset_of))]
 pub fn reset_value(member: usize, address: usize) -> u8
     ensures { result ≡ reset_of member address }
 {
