@@ -1,25 +1,17 @@
 -- `images::low_ok` meets its contract.
 -- Assumes nothing.
-use mathlib.Core.Path.{◌≡◌, sym, ap, ◌∙◌}
-use Prim.Native.Nat.{ℕ}
+use Rattle.std.proofs.Common.{◌∙◌, refl, ap, ℕ, eqb}
 use native.Mathlib.Omega.{arith}
-use Rattle.map.specs.Lists.{all_from}
-use Rattle.map.specs.Images.{ok_at}
+use Rattle.map.specs.Lists.{table_from}
+use Rattle.map.specs.Map.{lines_of, columns_of, has_column, kind_of, first_masks, first_mask, no_sink, group_mask, switch_mask, group_reserved, switch_reserved, reserved_as, reserved_of, first_reset, switch_bytes_of, switch_reset, current_reset, reset_as, reset_of}
+use Rattle.images.proofs.Steps.{of_member, row_part}
 use Rattle.images.proofs.low_ok.Goals as goal
 
-pub returns-in-0 : goal.returns-in-0
-returns-in-0 c = c.low_lp5860.ensures ∙ ap (λ (m : ℕ). all_from (ok_at m c.args.image.now) 0 100) (sym c.in-0.is)
-
-pub returns-in-1 : goal.returns-in-1
-returns-in-1 c = c.low_lp5861t.ensures ∙ ap (λ (m : ℕ). all_from (ok_at m c.args.image.now) 0 100) (sym c.in-1.is)
-
-pub returns-in-2 : goal.returns-in-2
-returns-in-2 c = c.low_lp5864.ensures ∙ ap (λ (m : ℕ). all_from (ok_at m c.args.image.now) 0 100) (sym c.in-2.is)
-
-pub returns-in-3 : goal.returns-in-3
-returns-in-3 c = c.low_lp5867.ensures ∙ ap (λ (m : ℕ). all_from (ok_at m c.args.image.now) 0 100) (sym c.in-3.is)
-
-pub returns-in_default : goal.returns-in_default
-returns-in_default c =
-    let last : c.args.member ≡ 4 = omega arith in
-    c.low_lp5868t.ensures ∙ ap (λ (m : ℕ). all_from (ok_at m c.args.image.now) 0 100) (sym last)
+pub returns : goal.returns
+unfolding table_from reserved_of reserved_as kind_of lines_of columns_of has_column first_masks first_mask no_sink group_mask group_reserved switch_mask switch_reserved reset_of reset_as first_reset switch_bytes_of switch_reset current_reset
+returns c =
+    let m : ℕ = c.args.member in
+    ap (λ (b : ℕ). eqb b 0) c.differing.ensures
+    ∙ row_part m 0 100 908 c.args.image.now _ _ c.fits-image (omega arith) (omega arith)
+    (of_member (λ m. table_from (reserved_of m) 0 100) _ m c.requires refl)
+    (of_member (λ m. table_from (reset_of m) 0 908) _ m c.requires refl)

@@ -1,22 +1,41 @@
 -- `images::registers_ok` meets its contract.
 -- Assumes nothing.
-use Rattle.std.proofs.Common.{ap, not}
-use mathlib.Core.Path.{sym, ◌∙◌}
-use native.Mathlib.Omega.{arith}
-use borrow.Author.Tests.{not-true, not-false}
-use Rattle.images.proofs.Whole.{member_refused, size_refused, low_refused, high_decides}
+use Rattle.std.proofs.Common.{◌≡◌, ◌∙◌, refl, sym, ap, ℕ, Bool, List, ◌&&◌, ltb}
+use borrow.Author.Tests.{lt-ltb, le-ltb}
+use Rattle.map.specs.Lists.{all_from}
+use Rattle.map.specs.Images.{ok_at}
+use Rattle.images.proofs.Steps.{and_then, and_else}
+use Rattle.images.proofs.Whole.{size_refused, of_size}
 use Rattle.images.proofs.registers_ok.Goals as goal
+use Rattle.images.proofs.registers_ok.Goals.{then-member-lt5, else-member-lt5}
 
-pub returns-then-member-gt4 : goal.returns-then-member-gt4
-returns-then-member-gt4 c = sym (member_refused _ _ c.if-member-gt4.true)
+pub returns-in_default : goal.returns-in_default
+returns-in_default c = sym (size_refused _ _ c.in_default.ensures.1)
 
-pub returns-then-image-ne908 : goal.returns-then-image-ne908
-returns-then-image-ne908 c = sym (size_refused _ _ c.if-image-ne908.true)
+pub returns-then-low_ok : goal.returns-then-low_ok
+returns-then-low_ok c =
+    let m : ℕ = c.args.member in
+    let image : List ℕ = c.args.image.now in
+    let same = c.in-Ok.ensures.1.same in
+    let low : c.if-member-lt5.value ≡ (ltb m 5 && all_from (ok_at m c.in-Ok.image.now) 0 100) =
+        elim c.if-member-lt5.branch
+        [ then-member-lt5 w ↦ and_then _ _ _ (lt-ltb m 5 w.if-member-lt5.true) (w.value-is ∙ w.low_ok.ensures)
+        | else-member-lt5 w ↦ and_else _ _ _ (le-ltb m 5 w.if-member-lt5.false) w.value-is
+        ] in
+    let high = and_then _ _ _ c.if-low_ok.true c.high_ok.ensures in
+    let whole = of_size m image c.in-Ok.ensures.1.long in
+    cc
 
-pub returns-then-not-low_ok : goal.returns-then-not-low_ok
-returns-then-not-low_ok c = sym (low_refused _ _ (sym c.low_ok.ensures ∙ not-true _ (ap not c.if-not-low_ok.true)))
-
-pub returns : goal.returns
-returns c =
-    sym
-    (high_decides _ _ _ (omega arith) c.if-image-ne908.false (sym c.low_ok.ensures ∙ not-false _ (ap not c.if-not-low_ok.false)) c.high_ok.ensures)
+pub returns-else-low_ok : goal.returns-else-low_ok
+returns-else-low_ok c =
+    let m : ℕ = c.args.member in
+    let image : List ℕ = c.args.image.now in
+    let same = c.in-Ok.ensures.1.same in
+    let low : c.if-member-lt5.value ≡ (ltb m 5 && all_from (ok_at m c.in-Ok.image.now) 0 100) =
+        elim c.if-member-lt5.branch
+        [ then-member-lt5 w ↦ and_then _ _ _ (lt-ltb m 5 w.if-member-lt5.true) (w.value-is ∙ w.low_ok.ensures)
+        | else-member-lt5 w ↦ and_else _ _ _ (le-ltb m 5 w.if-member-lt5.false) w.value-is
+        ] in
+    let high = and_else _ _ (all_from (ok_at m c.in-Ok.image.now) 0x0A7 741) c.if-low_ok.false refl in
+    let whole = of_size m image c.in-Ok.ensures.1.long in
+    cc
