@@ -1,7 +1,7 @@
 -- A panel's lamps, faults and differences as text, a list of ASCII codes: 20h is a space, 0Ah LF. m is a member's code, image the bytes of
 -- a chip's registers, l a scan line, s a sink, a an address. Every definition is total: a byte behind the end of an image is 0.
 -- Assumes nothing.
-use Rattle.std.specs.Prelude.{Bool, true, false, cond, not, ◌&&◌, ◌||◌, List, [], ◌∷◌, ◌++◌, ℕ, zero, suc, ◌+◌, ◌-◌, ◌*◌, ◌/◌, ◌%◌, ltb, eqb, get_or}
+use Rattle.std.specs.Prelude.{◌≡◌, Bool, true, false, cond, not, ◌&&◌, ◌||◌, List, [], ◌∷◌, ◌++◌, ℕ, zero, suc, ◌+◌, ◌-◌, ◌*◌, ◌/◌, ◌%◌, ltb, eqb, get_or}
 use Rattle.map.specs.declared.dots.Field.TheVariants.{Switch}
 use Rattle.map.specs.Lists.{table}
 use Rattle.map.specs.Map.{lines_of, is_dot, dot_number, writable_of}
@@ -26,6 +26,10 @@ row_text char l = table (char l) 18
 -- "one line of output for each scan line": lines 0 to lines_of m - 1
 unfoldable pub picture_text : ℕ → (ℕ → ℕ → ℕ) → List ℕ
 picture_text m char = lines_text (row_text char) (table (λ l. l) (lines_of m))
+
+-- a function that draws one dot, with what a call of it may answer (`post`), answers the dot's character
+abbrev pub Draws : (ℕ → ℕ → ℕ → Type 0) → (ℕ → ℕ → ℕ) → Type 0
+Draws post char = (l s r : ℕ) → post l s r → r ≡ char l s
 
 -- ---- Lamps
 

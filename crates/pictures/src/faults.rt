@@ -2,10 +2,12 @@
 // is no reading.
 ghost use Rattle.std.specs.Prelude.{◌≡◌, ◌<◌};
 ghost use Rattle.text.specs.Text.{Puts};
-ghost use Rattle.pictures.specs.Pictures.{row_text, reading_char, fault_char, faults_text};
+ghost use Rattle.pictures.specs.Pictures.{reading_char, fault_char, faults_text};
 
 use crate::byte_or;
+use crate::grid::put_picture;
 
+#[tactic(auto, unfolding(crate::specs::Pictures::reading_char))]
 fn reading_char(reading: u8) -> u8
     ensures { result ≡ reading_char reading }
 {
@@ -20,34 +22,22 @@ fn reading_char(reading: u8) -> u8
     }
 }
 
-fn put_row(text: &mut [u8], at: usize, readings: &[u8], line: usize) -> usize
-    requires { line < 11 }
-    ensures { Puts text.old at (row_text (fault_char readings.now) line) text.new result }
+// The reading of a dot; one behind the end counts as 4.
+#[tactic(auto, unfolding(crate::specs::Pictures::fault_char))]
+fn fault_char(readings: &[u8], line: usize, sink: usize) -> u8
+    requires { (line < 11) × (sink < 18) }
+    ensures { result ≡ fault_char readings.now line sink }
 {
-    let mut next = at;
-    let mut sink: usize = 0;
-    while sink < 18 {
-        let reading = byte_or(readings, 18 * line + sink, 4);
-        next = text::put(text, next, reading_char(reading));
-        sink += 1;
-    }
-    next
+    reading_char(byte_or(readings, 18 * line + sink, 4))
 }
 
-// A reading behind the end counts as 4.
 pub fn put_faults(text: &mut [u8], at: usize, member: usize, readings: &[u8]) -> usize
     ensures { Puts text.old at (faults_text member readings.now) text.new result }
 {
-    let lines = map::lines(member);
-    if lines == 0 {
-        return at;
-    }
-    let mut next = put_row(text, at, readings, 0);
-    let mut line: usize = 1;
-    while line < lines {
-        next = text::put(text, next, b'\n');
-        next = put_row(text, next, readings, line);
-        line += 1;
-    }
-    next
+    put_picture(
+        text,
+        at,
+        member,
+        |line, sink| fault_char(readings, line, sink),
+    )
 }

@@ -2,12 +2,14 @@
 // level.
 ghost use Rattle.std.specs.Prelude.{◌≡◌, ◌<◌};
 ghost use Rattle.text.specs.Text.{Puts};
-ghost use Rattle.pictures.specs.Pictures.{row_text, is_on, tenths_char, dot_char, lamp_char, lamps_text};
+ghost use Rattle.pictures.specs.Pictures.{is_on, tenths_char, dot_char, lamp_char, lamps_text};
 
 use crate::byte_or;
+use crate::grid::put_picture;
 use map::Field;
 
 // Whether the chip is on: bit 0 of 000h.
+#[tactic(auto, unfolding(crate::specs::Pictures::is_on))]
 fn is_on(image: &[u8]) -> bool
     ensures { result ≡ is_on image.now }
 {
@@ -15,32 +17,32 @@ fn is_on(image: &[u8]) -> bool
 }
 
 // Tenths of the largest level, rounded up.
+#[tactic(auto, unfolding(crate::specs::Pictures::tenths_char, crate::specs::Pictures::tenths))]
 fn tenths_char(top: usize, level: usize) -> u8
     requires { (0 < top) × (top < 65536) × (level < 65536) }
     ensures { result ≡ tenths_char top level }
 {
     let tenths = (10 * level + top - 1) / top;
     if 9 < tenths {
-        return b'#';
+        b'#'
+    } else {
+        b'0' + tenths as u8
     }
-    0x30 + tenths as u8
 }
 
 // A dot that is there, by its level and its switch bit.
+#[tactic(auto, unfolding(crate::specs::Pictures::dot_char))]
 fn dot_char(on: bool, top: usize, level: usize, switch: u8) -> u8
     requires { (0 < top) × (top < 65536) × (level < 65536) }
     ensures { result ≡ dot_char on top level switch }
 {
-    if !on {
-        return b'.';
+    if !on || level == 0 {
+        b'.'
+    } else if switch == 0 {
+        b'x'
+    } else {
+        tenths_char(top, level)
     }
-    if level == 0 {
-        return b'.';
-    }
-    if switch == 0 {
-        return b'x';
-    }
-    tenths_char(top, level)
 }
 
 fn lamp_char(member: usize, image: &[u8], line: usize, sink: usize) -> u8
@@ -54,31 +56,13 @@ fn lamp_char(member: usize, image: &[u8], line: usize, sink: usize) -> u8
     dot_char(is_on(image), dots::top_level(image), level, switch)
 }
 
-fn put_row(text: &mut [u8], at: usize, member: usize, image: &[u8], line: usize) -> usize
-    ensures { Puts text.old at (row_text (lamp_char member image.now) line) text.new result }
-{
-    let mut next = at;
-    let mut sink: usize = 0;
-    while sink < 18 {
-        next = text::put(text, next, lamp_char(member, image, line, sink));
-        sink += 1;
-    }
-    next
-}
-
 pub fn put_lamps(text: &mut [u8], at: usize, member: usize, image: &[u8]) -> usize
     ensures { Puts text.old at (lamps_text member image.now) text.new result }
 {
-    let lines = map::lines(member);
-    if lines == 0 {
-        return at;
-    }
-    let mut next = put_row(text, at, member, image, 0);
-    let mut line: usize = 1;
-    while line < lines {
-        next = text::put(text, next, b'\n');
-        next = put_row(text, next, member, image, line);
-        line += 1;
-    }
-    next
+    put_picture(
+        text,
+        at,
+        member,
+        |line, sink| lamp_char(member, image, line, sink),
+    )
 }

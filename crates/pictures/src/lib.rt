@@ -7,6 +7,7 @@
 
 mod differences;
 mod faults;
+mod grid;
 mod lamps;
 
 ghost use Rattle.std.specs.Prelude.{◌≡◌, get_or};
@@ -19,5 +20,5 @@ pub use lamps::put_lamps;
 fn byte_or(bytes: &[u8], at: usize, other: u8) -> u8
     ensures { result ≡ get_or bytes.now at other }
 {
-    if at < bytes.len() { bytes[at] } else { other }
+    bytes.get(at).copied().unwrap_or(other)
 }

@@ -1,24 +1,9 @@
 -- `pictures::lamps::put_lamps` meets its contract.
 -- Assumes nothing.
-use mathlib.Core.Path.{◌∙◌}
-use Rattle.text.specs.TextLaws.{puts_length}
-use Rattle.pictures.specs.Pictures.{lamps_text}
-use Rattle.pictures.proofs.Steps.{rows_none, rows_first, rows_more, rows_all}
+use Rattle.std.proofs.Common.{rules}
+use Rattle.pictures.specs.Pictures.{lamp_char, lamps_text}
 use Rattle.pictures.proofs.lamps.put_lamps.Goals as goal
-
-pub returns-then-lines-eq0 : goal.returns-then-lines-eq0
-unfolding lamps_text
-returns-then-lines-eq0 c = rows_none _ _ _ _ _ c.lines-lines.ensures.0 c.if-lines-eq0.true
-
-pub loop-line-init : goal.loop-line-init
-loop-line-init c = rows_first _ _ _ _ c.if-lines-eq0.false
-
-pub loop-line-preserved : goal.loop-line-preserved
-loop-line-preserved c = rows_more _ _ _ _ _ _ _ c.loop-line.invariant _ _ _ _ c.loop-line-test.true c.put-next.ensures c.put_row-next-in-loop-line.ensures
-
-pub shape_of-text : goal.shape_of-text
-shape_of-text c = c.loop-line.invariant.lines.same ∙ puts_length _ _ _ _ _ c.put_row-next.ensures
 
 pub returns : goal.returns
 unfolding lamps_text
-returns c = rows_all _ _ _ _ _ _ _ c.loop-line.invariant _ _ _ c.lines-lines.ensures.0 c.if-lines-eq0.false c.put_row-next.ensures c.loop-line-test.false
+returns c = c.put_picture.ensures (lamp_char c.args.member c.args.image.now) (λ l s r p. search rules)
