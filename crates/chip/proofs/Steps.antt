@@ -4,51 +4,60 @@
 use mathlib.Core.Path.{◌≡◌, refl, sym, ap, ◌∙◌}
 use mathlib.Core.Bool.{Bool, true, false, cond, not, ◌&&◌, and-false}
 use mathlib.Core.List.{List, [], ◌∷◌}
-use Prim.Native.Nat.{ℕ, zero, suc, ◌+◌, ◌-◌, ◌*◌, ◌/◌, ◌<◌, ◌≤◌}
-use native.Mathlib.Nat.{add-zero, zero-add, suc-add, sub-zero}
+use Prim.Native.Nat.{ℕ, suc, ◌+◌, ◌-◌, ◌*◌, ◌/◌, ◌<◌, ◌≤◌}
+use native.Mathlib.Nat.{add-zero, sub-zero}
 use native.Mathlib.Numerals.{add-one}
 use native.Mathlib.Omega.{arith}
 use borrow.Author.Tests.{eq-eqb, ne_eqb, lt-ltb, le-ltb, le-leb, lt-leb, not-true, not-false}
 use lib.Dec.{eqb}
-use lib.ListN.{length, get_or, set, take, drop, length-set, length-drop, drop_of_length-le}
-use lib.Seq.{drop-cons, take_all, take-nil, get_or-take, get_or-drop, drop-drop}
-use Rattle.map.specs.declared.refusals.Answer.{Answer}
-use Rattle.map.specs.declared.refusals.Answer.TheVariants.{Accepted, Refused}
+use borrow.Rule.Slice.PartMut.{put_mid}
+use native.Mathlib.Decide.{dec_lt}
+use Rattle.std.proofs.lemmas.List.{ext_get_or, get_or-replicate, get_or-append_right, length-replicate}
+use Rattle.std.proofs.Common.{length-append, length-take-le}
+use lib.ListN.{length, get_or, set, take, drop, replicate, length-drop, drop_of_length-le, get_or-append}
+use lib.Seq.{drop-cons, take_all, get_or-take, get_or-drop}
+use Rattle.std.specs.Prelude.{Option, Some, None, Ok, Err, is_ok, ok_or}
 use Rattle.map.specs.declared.refusals.Refusal.{Refusal}
 use Rattle.map.specs.declared.refusals.Refusal.TheVariants.{ListSizes, Unsound}
-use Rattle.map.specs.Refusals.{accepted, open_answer, opens}
+use Rattle.map.specs.Refusals.{Answer, accepted, open_answer, opens}
 use Rattle.map.specs.RefusalLaws.{opens_member, opens_bus, opens_pins}
 use Rattle.map.specs.Map.{reserved_of}
 use Rattle.map.specs.Lists.{filled}
-use Rattle.map.specs.ListLaws.{and_right, filled_none, filled_more, filled_length}
+use Rattle.map.specs.ListLaws.{and_right, filled_length, filled_in, filled_out}
 use Rattle.map.specs.Images.{registers_ok, reset_image}
 use Rattle.map.specs.ImageLaws.{registers_ok_lem}
 use Rattle.burst.specs.declared.sizes.Sizes.{Sizes}
-use Rattle.burst.specs.declared.sizes.Sizes.TheVariants.{Good, Bad}
 use Rattle.burst.specs.Burst.{size16, lengths_from, lengths, cut_from, transactions, sizes_of, head_select, head_address, head_writes}
-use Rattle.burst.specs.BurstLaws.{lengths_none, lengths_step, sizes_good_lem, sizes_bad, Rest, rest_all, rest_first, rest_next, head_address_small}
+use Rattle.burst.specs.BurstLaws.{lengths_none, lengths_step, GoodSizes, sizes_good_lem, sizes_bad, Rest, rest_all, rest_first, rest_next, head_address_small}
 use Rattle.chip.specs.declared.Chip.{Chip}
 use Rattle.chip.specs.declared.Fed.{Fed}
 use Rattle.chip.specs.declared.Opened.{Opened}
 use Rattle.chip.specs.declared.decode.Transaction.{Transaction}
 use Rattle.chip.specs.declared.decode.Transaction.TheVariants.{Write, PassesBy}
-use Rattle.chip.specs.Chip.{chip_of, sound_of, power_lost_of, new_chip, at_reset_of, feed_answer, selected, decode_of, is_on, heard, merged, put_byte, is_command, lod_clear, lsd_clear, heard_byte, hear_byte, hear_data, hear, by_transaction, apply, apply_all, feed_of}
-use Rattle.chip.specs.ChipLaws.{data_none, data_reset, data_next, byte_length, apply_length}
+use Rattle.chip.specs.Chip.{chip_of, sound_of, power_lost_of, new_chip, at_reset_of, feed_answer, selected, decode_of, is_on, heard, merged, put_byte, is_command, faults_off, lod_clear, lsd_clear, heard_byte, hear_byte, hear_data, hear, by_transaction, apply, apply_all, feed_of}
+use Rattle.chip.specs.HearLaws.{not_command}
+use Rattle.chip.specs.ChipLaws.{data_none, data_reset, data_next}
 
 -- ---- chips that are sound, at reset, without power
 
-pub taken : (answer : Answer) → answer ≡ Accepted → accepted answer ≡ true
-taken answer e = ap accepted e
+-- an accepted Open is one that is Ok
+opens_is : (m b p : ℕ) → is_ok (open_answer m b p) ≡ opens m b p
+unfolding opens
+opens_is m b p = go (open_answer m b p)
+  where
+    go : (x : Answer) → is_ok x ≡ accepted x
+    go (Ok u) = refl
+    go (Err r) = refl
 
-pub not_opened : (m b p : ℕ) (rs : List ℕ) (x : Refusal) (answer : Answer) → answer ≡ open_answer m b p → answer ≡ Refused x →
-    false ≡ sound_of (chip_of m b p rs)
-unfolding sound_of opens
-not_opened m b p rs x answer e n = rw (sym e ∙ n) refl
-
-pub registers_decide : (m b p : ℕ) (rs : List ℕ) (answer : Answer) (r : Bool) → answer ≡ open_answer m b p → answer ≡ Accepted → r ≡ registers_ok m rs →
+pub sound_opened : (m b p : ℕ) (rs : List ℕ) (x : Answer) (o r : Bool) → x ≡ open_answer m b p → o ≡ is_ok x → o ≡ true → r ≡ registers_ok m rs →
     r ≡ sound_of (chip_of m b p rs)
-unfolding sound_of opens
-registers_decide m b p rs answer r e n q = rw (sym e ∙ n) q
+unfolding sound_of
+sound_opened m b p rs x o r e f t q = rw (sym (opens_is m b p), sym (f ∙ ap is_ok e), t) q
+
+pub not_opened : (m b p : ℕ) (rs : List ℕ) (x : Answer) (o : Bool) → x ≡ open_answer m b p → o ≡ is_ok x → o ≡ false →
+    o ≡ sound_of (chip_of m b p rs)
+unfolding sound_of
+not_opened m b p rs x o e f n = rw (sym (opens_is m b p), sym (f ∙ ap is_ok e), n) refl
 
 pub new_is : (m b p : ℕ) (rs : List ℕ) → rs ≡ reset_image m → chip_of m b p rs ≡ new_chip m b p
 unfolding new_chip
@@ -58,12 +67,6 @@ pub open_inside : (m b p : ℕ) (x : Answer) → x ≡ open_answer m b p → acc
 unfolding opens
 open_inside m b p x e t =
     let o : opens m b p ≡ true = sym (ap accepted e) ∙ t in (opens_member m b p o, opens_bus m b p o, opens_pins m b p o)
-
-pub chosen_new : (answer : Answer) (c d r : Chip) → answer ≡ Accepted → r ≡ c → r ≡ cond (accepted answer) c d
-chosen_new answer c d r e q = q ∙ rw (taken answer e) refl
-
-pub chosen_first : (answer : Answer) (x : Refusal) (c d r : Chip) → answer ≡ Refused x → r ≡ d → r ≡ cond (accepted answer) c d
-chosen_first answer x c d r e q = q ∙ rw (ap accepted e) refl
 
 pub at_reset_is : (m b p : ℕ) (x : Answer) (c : Chip) → x ≡ open_answer m b p → c ≡ cond (accepted x) (new_chip m b p) (new_chip 0 0 0) →
     ◌≡◌ {A = Opened} (record { answer = x; chip = c }) (at_reset_of m b p)
@@ -121,43 +124,50 @@ module _ (bus pins h0 h1 : ℕ) (writes own : Bool) where
 
 -- ---- one data byte
 
-pub zero_none : (from : ℕ) (rs : List ℕ) → rs ≡ filled (λ a. 0) from 0 rs
-zero_none from rs = sym (filled_none (λ a. 0) from rs)
+-- a part of the registers that is filled with 0
+module _ (from n : ℕ) (xs : List ℕ) (inside : from + n ≤ length xs) where
+  abbrev part : List ℕ
+  part = put_mid from n xs (replicate n 0)
 
-pub zero_more : (old rs : List ℕ) (from i : ℕ) → rs ≡ filled (λ a. 0) from i old → set rs (from + i) 0 ≡ filled (λ a. 0) from (i + 1) old
-zero_more old rs from i e = ap (λ (x : List ℕ). set x (from + i) 0) e ∙ sym (filled_more (λ a. 0) from i old)
+  zeros_length : length part ≡ length xs
+  zeros_length = simp (length-append, length-drop, length-take-le from xs (omega arith), length-replicate) (omega arith)
 
-pub cleared_length : (old new : List ℕ) (a v from n : ℕ) → new ≡ filled (λ k. 0) from n (set old a v) → length new ≡ length old
-cleared_length old new a v from n e = ap length e ∙ filled_length (λ k. 0) from n (set old a v) ∙ length-set old a v
+  zeros_at : (i : ℕ) → Dec (i < from) → Dec (i < from + n) → get_or part i 0 ≡ get_or (filled (λ a. 0) from n xs) i 0
+  zeros_at i (yes l) e =
+      get_or-append (take from xs) _ 0 i (omega (arith, front)) ∙ get_or-take from xs i 0 l ∙ sym (filled_out (λ a. 0) from n xs i (λ h u. omega arith))
+    where
+      front : length (take from xs) ≡ from
+      front = length-take-le from xs (omega arith)
+  zeros_at i (no l) (yes u) =
+      get_or-append_right (take from xs) _ from i 0 (length-take-le from xs (omega arith)) (omega arith)
+      ∙ get_or-append (replicate n 0) _ 0 (i - from) (rw length-replicate (omega arith))
+      ∙ get_or-replicate n (i - from) 0 0 (omega arith)
+      ∙ sym (filled_in (λ a. 0) from n xs i (omega arith) u (omega arith))
+  zeros_at i (no l) (no u) =
+      let place : from + (n + (i - from - n)) ≡ i = omega arith in
+      get_or-append_right (take from xs) _ from i 0 (length-take-le from xs (omega arith)) (omega arith)
+      ∙ get_or-append_right (replicate n 0) _ n (i - from) 0 (length-replicate n 0) (omega arith)
+      ∙ get_or-drop n (drop from xs) (i - from - n) 0 ∙ get_or-drop from xs (n + (i - from - n)) 0
+      ∙ ap (λ (k : ℕ). get_or xs k 0) place
+      ∙ sym (filled_out (λ a. 0) from n xs i (λ h v. u v))
 
-pub command_other : (command code a v : ℕ) → (a ≡ command → ⊥) → false ≡ is_command command code a v
-unfolding is_command
-command_other command code a v n = rw (ne_eqb a command n) refl
+  zeros_filled : part ≡ filled (λ a. 0) from n xs
+  zeros_filled =
+      ext_get_or 0 _ _ (zeros_length ∙ sym (filled_length (λ a. 0) from n xs)) (λ i h. zeros_at i (dec_lt i from) (dec_lt i (from + n)))
 
-pub command_here : (command code a v : ℕ) → a ≡ command → eqb v code ≡ is_command command code a v
-unfolding is_command
-command_here command code a v e = rw (eq-eqb a command e) refl
-
-pub hears_on : (on : Bool) (a : ℕ) → on ≡ true → true ≡ heard on a
-unfolding heard
-hears_on on a e = rw e refl
-
-pub hears_enable : (on : Bool) (a : ℕ) → on ≡ false → a ≡ 0 → true ≡ heard on a
-unfolding heard
-hears_enable on a e z = rw (e, eq-eqb a 0 z) refl
-
-pub hears_reset : (on : Bool) (a : ℕ) → on ≡ false → (a ≡ 0 → ⊥) → eqb a 0x0A9 ≡ heard on a
-unfolding heard
-hears_reset on a e n = rw (e, ne_eqb a 0 n) refl
+  pub zeros_put : (k : ℕ) (new : List ℕ) → k ≡ n → new ≡ replicate (length (take k (drop from xs))) 0 → put_mid from k xs new ≡ filled (λ a. 0) from n xs
+  zeros_put k new e q =
+      let size : length (take n (drop from xs)) ≡ n = length-take-le n (drop from xs) (rw length-drop (omega arith)) in
+      rw (q, e, size) zeros_filled
 
 module _ (m a v : ℕ) (opens shorts : Bool) (old new : List ℕ) where
-  pub puts_opens : opens ≡ is_command 0x0A7 0x0F a v → opens ≡ true → new ≡ lod_clear old → new ≡ heard_byte m a v old
-  unfolding heard_byte
+  pub puts_opens : opens ≡ is_command 0x0A7 0x0F a v → opens ≡ true → new ≡ faults_off 0x065 0xFD old → new ≡ heard_byte m a v old
+  unfolding heard_byte lod_clear
   puts_opens e t q = q ∙ rw (sym e ∙ t) refl
 
-  pub puts_shorts : opens ≡ is_command 0x0A7 0x0F a v → opens ≡ false → shorts ≡ is_command 0x0A8 0x0F a v → shorts ≡ true → new ≡ lsd_clear old →
+  pub puts_shorts : opens ≡ is_command 0x0A7 0x0F a v → opens ≡ false → shorts ≡ is_command 0x0A8 0x0F a v → shorts ≡ true → new ≡ faults_off 0x086 0xFE old →
       new ≡ heard_byte m a v old
-  unfolding heard_byte
+  unfolding heard_byte lsd_clear
   puts_shorts e f d t q = q ∙ rw (sym e ∙ f, sym d ∙ t) refl
 
   pub puts_byte : (mask byte : ℕ) → opens ≡ is_command 0x0A7 0x0F a v → opens ≡ false → shorts ≡ is_command 0x0A8 0x0F a v → shorts ≡ false →
@@ -170,25 +180,25 @@ pub low_reset : (m a v : ℕ) (reset : Bool) (old new : List ℕ) → length old
 low_reset m a v reset old new h e t q = (rw (sym e ∙ t) refl, q ∙ rw (eq-eqb (length old) 908 h) refl)
 
 module _ (m a v : ℕ) (on reset : Bool) (old : List ℕ) where
-  pub low_unheard : (h : Bool) → reset ≡ is_command 0x0A9 0xFF a v → reset ≡ false → h ≡ heard on a → not h ≡ true →
+  pub low_unheard : (h : Bool) → reset ≡ is_command 0x0A9 0xFF a v → reset ≡ false → h ≡ heard on a → h ≡ false →
       (true ≡ not (is_command 0x0A9 0xFF a v)) × (old ≡ hear_byte m on a v old)
   unfolding hear_byte
-  low_unheard h e f d n = (rw (sym e ∙ f) refl, rw (sym d ∙ not-true h n) refl)
+  low_unheard h e f d n = (rw (sym e ∙ f) refl, rw (sym d ∙ n) refl)
 
-  pub low_heard : (h : Bool) (new : List ℕ) → a < 0x100 → reset ≡ is_command 0x0A9 0xFF a v → reset ≡ false → h ≡ heard on a → not h ≡ false →
+  pub low_heard : (h : Bool) (new : List ℕ) → a < 0x100 → reset ≡ is_command 0x0A9 0xFF a v → reset ≡ false → h ≡ heard on a → h ≡ true →
       new ≡ heard_byte m a v old → (true ≡ not (is_command 0x0A9 0xFF a v)) × (new ≡ hear_byte m on a v old)
   unfolding hear_byte
-  low_heard h new l e f d n q = (rw (sym e ∙ f) refl, q ∙ rw (sym d ∙ not-false h n, le-leb a 0x38B (omega arith)) refl)
+  low_heard h new l e f d n q = (rw (sym e ∙ f) refl, q ∙ rw (sym d ∙ n, le-leb a 0x38B (omega arith)) refl)
 
 -- ---- bytes from 100h on
 
 no_reset : (a v : ℕ) → 0x100 ≤ a → is_command 0x0A9 0xFF a v ≡ false
-no_reset a v h = sym (command_other 0x0A9 0xFF a v (λ e. omega arith))
+no_reset a v h = not_command 0x0A9 0xFF a v (λ e. omega arith)
 
 dot_byte : (m a v : ℕ) (rs : List ℕ) → 0x100 ≤ a → a ≤ 0x38B → hear_byte m true a v rs ≡ put_byte m a v rs
 unfolding hear_byte heard_byte heard
 dot_byte m a v rs l h =
-    rw (le-leb a 0x38B h, sym (command_other 0x0A7 0x0F a v (λ e. omega arith)), sym (command_other 0x0A8 0x0F a v (λ e. omega arith))) refl
+    rw (le-leb a 0x38B h, not_command 0x0A7 0x0F a v (λ e. omega arith), not_command 0x0A8 0x0F a v (λ e. omega arith)) refl
 
 -- those beyond 38Bh are dropped
 past_byte : (m a v : ℕ) (on : Bool) (rs : List ℕ) → 0x38B < a → hear_byte m on a v rs ≡ rs
@@ -217,11 +227,10 @@ data_unheard m a (v ∷ vs) rs h =
 -- i bytes are taken: what the others do to the registers that are there is what all do to the old ones
 pub record Heard (m : ℕ) (on : Bool) (start : ℕ) (bytes old rs : List ℕ) (i : ℕ) : Type 0 where
   pub below : i ≤ length bytes
-  pub size : length rs ≡ 908
   pub same : hear_data m on (start + i) (drop i bytes) rs ≡ hear_data m on start bytes old
 
-pub heard_none : (m : ℕ) (on : Bool) (start : ℕ) (bytes old : List ℕ) → length old ≡ 908 → Heard m on start bytes old old 0
-heard_none m on start bytes old h = record { below = omega arith; size = h; same = rw add-zero refl }
+pub heard_none : (m : ℕ) (on : Bool) (start : ℕ) (bytes old : List ℕ) → Heard m on start bytes old old 0
+heard_none m on start bytes old = record { below = omega arith; same = rw add-zero refl }
 
 -- what lies behind i bytes, as a part of the slice
 rest : (bytes : List ℕ) (i : ℕ) → take (length bytes - i) (drop i bytes) ≡ drop i bytes
@@ -250,7 +259,6 @@ module _ (m : ℕ) (on : Bool) (start : ℕ) (bytes old rs : List ℕ) (i : ℕ)
       let next : start + (i + 1) ≡ suc (start + i) = omega arith in
       record {
         below = omega arith;
-        size = ap length q ∙ byte_length m on (start + i) (get_or bytes i 0) rs ∙ h.size;
         same =
             ap (λ (a : ℕ). hear_data m on a (drop (i + 1) bytes) new) next
             ∙ ap (hear_data m on (suc (start + i)) (drop (i + 1) bytes)) q
@@ -300,32 +308,16 @@ dots_more m start bytes old rs i mask byte l s u h k q =
 
 -- ---- one transaction
 
--- the bytes behind the head of a transaction that stands at q of a list
-drop_take : (n k : ℕ) (l : List ℕ) → drop n (take (n + k) l) ≡ take k (drop n l)
-drop_take zero k l = rw zero-add
-drop_take (suc n) k [] = rw (suc-add, take-nil)
-drop_take (suc n) k (x ∷ l) = rw suc-add (drop_take n k l)
+module _ (m bus pins : ℕ) (rs x : List ℕ) (t : Transaction) (d : t ≡ decode_of bus pins (get_or x 0 0) (get_or x 1 0)) where
+  pub applies_write : (a : ℕ) (new : List ℕ) → t ≡ Write a → new ≡ hear_data m (is_on rs) a (take (length x - 2) (drop 2 x)) rs →
+      new ≡ apply m bus pins rs x
+  unfolding apply hear
+  applies_write a new e h =
+      h ∙ ap (λ (vs : List ℕ). hear_data m (is_on rs) a vs rs) (rest x 2) ∙ ap (λ (y : Transaction). by_transaction m rs y (drop 2 x)) (sym e ∙ d)
 
-module _ (m bus pins q k : ℕ) (l rs : List ℕ) (three : 3 ≤ k) where
-  at_list : apply m bus pins rs (take k (drop q l)) ≡ by_transaction m rs (decode_of bus pins (get_or l q 0) (get_or l (q + 1) 0)) (take (q + k - (q + 2)) (drop (q + 2) l))
+  pub applies_none : t ≡ PassesBy → rs ≡ apply m bus pins rs x
   unfolding apply
-  at_list =
-      let first : get_or (take k (drop q l)) 0 0 ≡ get_or l q 0 = get_or-take k (drop q l) 0 0 (omega arith) ∙ get_or-drop q l 0 0 ∙ rw add-zero in
-      let second : get_or (take k (drop q l)) 1 0 ≡ get_or l (q + 1) 0 = get_or-take k (drop q l) 1 0 (omega arith) ∙ get_or-drop q l 1 0 in
-      let size : k ≡ 2 + (q + k - (q + 2)) = omega arith in
-      let bytes : drop 2 (take k (drop q l)) ≡ take (q + k - (q + 2)) (drop (q + 2) l) =
-      ap (λ (x : ℕ). drop 2 (take x (drop q l))) size ∙ drop_take 2 (q + k - (q + 2)) (drop q l) ∙ ap (take (q + k - (q + 2))) (drop-drop 2 q l) in
-      rw (first, second, bytes)
-
-  pub applies_write : (t : Transaction) (a : ℕ) (new : List ℕ) → t ≡ decode_of bus pins (get_or l q 0) (get_or l (q + 1) 0) → t ≡ Write a →
-      new ≡ hear_data m (is_on rs) a (take (q + k - (q + 2)) (drop (q + 2) l)) rs → new ≡ apply m bus pins rs (take k (drop q l))
-  unfolding hear
-  applies_write t a new d e h =
-      h ∙ ap (λ (x : Transaction). by_transaction m rs x (take (q + k - (q + 2)) (drop (q + 2) l))) (sym e ∙ d) ∙ sym at_list
-
-  pub applies_none : (t : Transaction) → t ≡ decode_of bus pins (get_or l q 0) (get_or l (q + 1) 0) → t ≡ PassesBy → rs ≡ apply m bus pins rs (take k (drop q l))
-  applies_none t d e =
-      ap (λ (x : Transaction). by_transaction m rs x (take (q + k - (q + 2)) (drop (q + 2) l))) (sym e ∙ d) ∙ sym at_list
+  applies_none e = ap (λ (y : Transaction). by_transaction m rs y (drop 2 x)) (sym e ∙ d)
 
 -- a decoded address has ten bits
 pub write_small : (bus pins h0 h1 : ℕ) (t : Transaction) (a : ℕ) → t ≡ decode_of bus pins h0 h1 → t ≡ Write a → a < 1024
@@ -341,36 +333,36 @@ write_small bus pins h0 h1 t a d e = go (head_writes bus h0 h1 && selected bus p
 -- i transactions are applied, and the next one is at `at`
 pub record Applied (m bus pins : ℕ) (l : List ℕ) (n : ℕ) (old rs : List ℕ) (at i : ℕ) : Type 0 where
   pub below : i ≤ n
-  pub size : length rs ≡ 908
   pub left : Rest l at (lengths_from l (4 + 2 * i) (n - i))
   pub same : apply_all m bus pins rs (cut_from l at (lengths_from l (4 + 2 * i) (n - i))) ≡ apply_all m bus pins old (cut_from l (4 + 2 * n) (lengths_from l 4 n))
 
-pub applied_none : (m bus pins : ℕ) (l : List ℕ) (n : ℕ) (old : List ℕ) → length old ≡ 908 → Rest l (4 + 2 * n) (lengths_from l 4 n) →
+pub applied_none : (m bus pins : ℕ) (l : List ℕ) (n : ℕ) (old : List ℕ) → Rest l (4 + 2 * n) (lengths_from l 4 n) →
     Applied m bus pins l n old old (4 + 2 * n) 0
-applied_none m bus pins l n old h r = record { below = omega arith; size = h; left = rw sub-zero r; same = rw sub-zero refl }
+applied_none m bus pins l n old r = record { below = omega arith; left = rw sub-zero r; same = rw sub-zero refl }
 
 module _ (m bus pins : ℕ) (l : List ℕ) (n : ℕ) (old rs : List ℕ) (at i : ℕ) (a : Applied m bus pins l n old rs at i) where
   next_rest : (k : ℕ) → i < n → k ≡ size16 l (4 + 2 * i) → Rest l at (k ∷ lengths_from l (4 + 2 * (i + 1)) (n - (i + 1)))
   next_rest k h e = rw (lengths_step l n i h, ← e) at a.left
 
   -- what a transaction has to meet
-  pub applied_next : (k : ℕ) → i < n → k ≡ size16 l (4 + 2 * i) → (3 ≤ k) × (at + k ≤ length l)
+  pub applied_next : (k : ℕ) → i < n → k ≡ size16 l (4 + 2 * i) → (3 ≤ length (take (at + k - at) (drop at l))) × (at + k ≤ length l)
   applied_next k h e =
       let r = next_rest k h e in
-      (rest_first l at k _ r, omega (arith, r.size))
+      let size : length (take (at + k - at) (drop at l)) ≡ at + k - at = length-take-le (at + k - at) (drop at l) (rw length-drop (omega (arith, r.size))) in
+      (omega (arith, size, rest_first l at k _ r), omega (arith, r.size))
 
-  pub applied_more : (k : ℕ) (new : List ℕ) → i < n → k ≡ size16 l (4 + 2 * i) → new ≡ apply m bus pins rs (take k (drop at l)) →
+  pub applied_more : (k : ℕ) (new : List ℕ) → i < n → k ≡ size16 l (4 + 2 * i) → new ≡ apply m bus pins rs (take (at + k - at) (drop at l)) →
       Applied m bus pins l n old new (at + k) (i + 1)
   unfolding apply_all cut_from
   applied_more k new h e q =
       let ks = lengths_from l (4 + 2 * (i + 1)) (n - (i + 1)) in
+      let size : at + k - at ≡ k = omega arith in
       let next : k ∷ ks ≡ lengths_from l (4 + 2 * i) (n - i) = ap (λ (x : ℕ). x ∷ ks) e ∙ sym (lengths_step l n i h) in
       record {
         below = omega arith;
-        size = ap length q ∙ apply_length m bus pins rs (take k (drop at l)) a.size;
         left = rest_next l at k ks (next_rest k h e);
         same =
-            ap (λ (x : List ℕ). apply_all m bus pins x (cut_from l (at + k) ks)) q
+            ap (λ (x : List ℕ). apply_all m bus pins x (cut_from l (at + k) ks)) (q ∙ ap (λ (x : ℕ). apply m bus pins rs (take x (drop at l))) size)
             ∙ ap (λ (x : List ℕ). apply_all m bus pins rs (cut_from l at x)) next
             ∙ a.same;
       }
@@ -385,7 +377,7 @@ module _ (m bus pins : ℕ) (l : List ℕ) (n : ℕ) (old rs : List ℕ) (at i :
 
 module _ (c : Chip) (l : List ℕ) where
   -- a refusal changes nothing
-  refused_is : (x : Refusal) → Refused x ≡ feed_answer c l → c.registers ≡ (feed_of c l).chip.registers
+  refused_is : (x : Refusal) → Err x ≡ feed_answer c l → c.registers ≡ (feed_of c l).chip.registers
   unfolding feed_of
   refused_is x e = rw (sym e) refl
 
@@ -393,36 +385,48 @@ module _ (c : Chip) (l : List ℕ) where
   abbrev Feeds : Answer → List ℕ → Type 0
   Feeds x new = (x ≡ feed_answer c l) × (new ≡ (feed_of c l).chip.registers)
 
-  pub feeds_unsound : (sound : Bool) → sound ≡ sound_of c → not sound ≡ true → Feeds (Refused Unsound) c.registers
+  pub feeds_unsound : (sound : Bool) → sound ≡ sound_of c → not sound ≡ true → Feeds (Err Unsound) c.registers
   unfolding feed_answer
-  feeds_unsound sound e n = let a : Refused Unsound ≡ feed_answer c l = rw (sym e ∙ not-true sound n) refl in (a, refused_is Unsound a)
+  feeds_unsound sound e n = let a : Err Unsound ≡ feed_answer c l = rw (sym e ∙ not-true sound n) refl in (a, refused_is Unsound a)
 
-  module _ (sound : Bool) (s : Sizes) (e : sound ≡ sound_of c) (y : not sound ≡ false) (q : s ≡ sizes_of l) where
-    pub feeds_bad : s ≡ Bad → Feeds (Refused ListSizes) c.registers
+  module _ (sound : Bool) (e : sound ≡ sound_of c) (y : not sound ≡ false) (r : Option Sizes) (read : r ≡ sizes_of l) where
+    -- the sizes as they were read, or the refusal where there are none
+    pub feeds_bad : (x : Refusal) → Err x ≡ ok_or r ListSizes → Feeds (Err x) c.registers
     unfolding feed_answer
-    feeds_bad b =
-        let a : Refused ListSizes ≡ feed_answer c l = rw (sym e ∙ not-false sound y, sizes_bad l (sym q ∙ b)) refl in
-        (a, refused_is ListSizes a)
+    feeds_bad x h =
+        let a : Err x ≡ feed_answer c l = rw (sym e ∙ not-false sound y, sizes_bad l (sym read ∙ none r h), same r h) refl in
+        (a, refused_is x a)
+      where
+        same : (o : Option Sizes) → Err x ≡ ok_or o ListSizes → x ≡ ListSizes
+        same None q = cc
+        same (Some s) q = cc
 
-    -- every transaction was applied
-    pub feeds_all : (n t : ℕ) (new : List ℕ) → s ≡ Good n t →
-        new ≡ apply_all c.member c.bus c.pins c.registers (cut_from l (4 + 2 * n) (lengths_from l 4 n)) → Feeds Accepted new
-    unfolding feed_of feed_answer transactions lengths
-    feeds_all n t new b r =
-        let g = sizes_good_lem l n t (sym q ∙ b) in
-        let a : Accepted ≡ feed_answer c l = rw (sym e ∙ not-false sound y, g.good) refl in
-        (a, rw (sym a, g.n_is) r)
+        none : (o : Option Sizes) → Err x ≡ ok_or o ListSizes → o ≡ None
+        none None q = refl
+        none (Some s) q = cc
+
+    module _ (s : Sizes) (h : Ok s ≡ ok_or r ListSizes) where
+      good : GoodSizes l s.n s.t
+      good = sizes_good_lem l s.n s.t (sym read ∙ was r h)
+        where
+          was : (o : Option Sizes) → Ok s ≡ ok_or o ListSizes → o ≡ Some s
+          was o q = grind arith
+
+      pub good_rest : (s.n < 65536) × Rest l (4 + 2 * s.n) (lengths_from l 4 s.n)
+      good_rest = (good.n_small, rest_all l s.n s.t good)
+
+      -- every transaction was applied
+      pub feeds_all : (new : List ℕ) → new ≡ apply_all c.member c.bus c.pins c.registers (cut_from l (4 + 2 * s.n) (lengths_from l 4 s.n)) → Feeds (Ok tt) new
+      unfolding feed_of feed_answer transactions lengths
+      feeds_all new r =
+          let a : Ok tt ≡ feed_answer c l = rw (sym e ∙ not-false sound y, good.good) refl in
+          (a, rw (sym a, good.n_is) r)
 
 -- the registers of a sound chip are 908
 pub sound_size : (c : Chip) (sound : Bool) → sound ≡ sound_of c → not sound ≡ false → length c.registers ≡ 908
 unfolding sound_of
 sound_size c sound e y =
     (registers_ok_lem c.member c.registers (and_right (opens c.member c.bus c.pins) _ (sym e ∙ not-false sound y))).size
-
-pub good_rest : (l : List ℕ) (s : Sizes) (n t : ℕ) → s ≡ sizes_of l → s ≡ Good n t → (n < 65536) × Rest l (4 + 2 * n) (lengths_from l 4 n)
-good_rest l s n t q b =
-    let g = sizes_good_lem l n t (sym q ∙ b) in
-    (g.n_small, rest_all l n t g)
 
 pub fed_is : (c : Chip) (l : List ℕ) (x : Answer) (rs : List ℕ) → x ≡ feed_answer c l → rs ≡ (feed_of c l).chip.registers →
     ◌≡◌ {A = Fed} (record { answer = x; chip = chip_of c.member c.bus c.pins rs }) (feed_of c l)

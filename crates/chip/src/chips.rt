@@ -9,23 +9,19 @@ use map::Answer;
 pub(crate) fn sound(member: u8, bus: u8, pins: u8, registers: &[u8]) -> bool
     ensures { result ≡ sound_of (chip_of member bus pins registers.now) }
 {
-    let answer = map::open_answer(member as usize, bus as usize, pins as usize);
-    let Answer::Accepted = answer else {
-        return false;
-    };
-    images::registers_ok(member as usize, registers)
+    map::open_answer(member as usize, bus as usize, pins as usize).is_ok()
+        && images::registers_ok(member as usize, registers)
 }
 
 fn new_chip(member: usize, bus: usize, pins: usize) -> Chip
     requires { (member < 5) × (bus < 2) × (pins < 4) }
     ensures { result ≡ new_chip member bus pins }
 {
-    let registers = images::reset_image(member);
     Chip {
         member: member as u8,
         bus: bus as u8,
         pins: pins as u8,
-        registers: registers,
+        registers: images::reset_image(member),
     }
 }
 
@@ -33,8 +29,8 @@ pub(crate) fn opened(answer: Answer, member: usize, bus: usize, pins: usize) -> 
     requires { accepted answer ≡ true → (member < 5) × (bus < 2) × (pins < 4) }
     ensures { result ≡ cond (accepted answer) (new_chip member bus pins) (new_chip 0 0 0) }
 {
-    let Answer::Accepted = answer else {
-        return new_chip(0, 0, 0);
-    };
-    new_chip(member, bus, pins)
+    match answer {
+        Ok(()) => new_chip(member, bus, pins),
+        Err(_) => new_chip(0, 0, 0),
+    }
 }

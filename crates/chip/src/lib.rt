@@ -12,6 +12,7 @@ mod data;
 mod decode;
 mod lists;
 mod masks;
+mod members;
 
 ghost use Rattle.std.specs.Prelude.{◌≡◌, cond, eqb, length};
 ghost use Rattle.chip.specs.Chip.{chip_of, power_lost_of, at_reset_of, feed_answer, feed_of};
@@ -48,10 +49,7 @@ pub fn at_reset(member: usize, bus: usize, pins: usize) -> Opened
 {
     let answer = map::open_answer(member, bus, pins);
     let chip = chips::opened(answer, member, bus, pins);
-    Opened {
-        answer: answer,
-        chip: chip,
-    }
+    Opened { answer, chip }
 }
 
 // A loss of power, on register bytes that are lent. A member above 4 has no reset values, and nothing changes; nor do other than
@@ -69,9 +67,7 @@ pub fn lose_power(member: u8, registers: &mut [u8])
 pub fn power_lost(mut chip: Chip) -> Chip
     ensures { result ≡ power_lost_of chip }
 {
-    let mut registers = chip.registers;
-    lose_power(chip.member, &mut registers);
-    chip.registers = registers;
+    lose_power(chip.member, &mut chip.registers);
     chip
 }
 
@@ -82,25 +78,18 @@ pub fn feed_registers(member: u8, bus: u8, pins: u8, registers: &mut [u8], list:
     ensures stores { registers.new ≡ (feed_of (chip_of member bus pins registers.old) list.now).chip.registers }
 {
     if !chips::sound(member, bus, pins, registers) {
-        return Answer::Refused(Refusal::Unsound);
+        return Err(Refusal::Unsound);
     }
-    let sizes = burst::read_sizes(list);
-    let Sizes::Good { n, t: _ } = sizes else {
-        return Answer::Refused(Refusal::ListSizes);
-    };
+    let Sizes { n, t: _ } = burst::read_sizes(list).ok_or(Refusal::ListSizes)?;
+    let registers: &mut [u8; 908] = registers.as_mut_array().unwrap();
     lists::apply_all(member as usize, bus, pins, registers, list, n);
-    Answer::Accepted
+    Ok(())
 }
 
 // The same of a chip.
 pub fn feed(mut chip: Chip, list: &[u8]) -> Fed
     ensures { result ≡ feed_of chip list.now }
 {
-    let mut registers = chip.registers;
-    let answer = feed_registers(chip.member, chip.bus, chip.pins, &mut registers, list);
-    chip.registers = registers;
-    Fed {
-        answer: answer,
-        chip: chip,
-    }
+    let answer = feed_registers(chip.member, chip.bus, chip.pins, &mut chip.registers, list);
+    Fed { answer, chip }
 }

@@ -1,8 +1,9 @@
 // The reserved bits of an address, all of them where it is not writable, by the address's range and with the member's lines and
 // columns at hand. Most members have every column, and there a loop over many data bytes needs no division.
 ghost use Rattle.std.specs.Prelude.{◌≡◌, cond, ◌<◌, ◌≤◌, ltb};
-ghost use Rattle.map.specs.Map.{lines_of, every_column, columns_of, group_reserved, switch_reserved, reserved_of};
+ghost use Rattle.map.specs.Map.{every_column, group_reserved, switch_reserved, reserved_of};
 
+use crate::members::Member;
 use map::Kind;
 
 // Bit s for sink s: all eighteen.
@@ -16,20 +17,32 @@ fn from_end(address: usize, end: usize) -> u8
 }
 
 // 100h and up: a byte of a dot, or a hole.
-pub(crate) fn dot_mask(member: usize, lines: usize, columns: u32, address: usize) -> u8
-    requires { (lines ≡ lines_of member) × (columns ≡ columns_of member) × (0x100 ≤ address) }
-    ensures { result ≡ reserved_of member address }
+pub(crate) fn dot_mask(member: Member, address: usize) -> u8
+    requires { 0x100 ≤ address }
+    ensures { result ≡ reserved_of member.code address }
 {
     if address < 0x200 {
-        if columns == EVERY_COLUMN {
-            return from_end(address, 0x100 + 18 * lines);
+        if member.columns == EVERY_COLUMN {
+            return from_end(address, 0x100 + 18 * member.lines);
         }
-        return map::reserved_as(Kind::Current, member, lines, columns, address);
+        return map::reserved_as(
+            Kind::Current,
+            member.code,
+            member.lines,
+            member.columns,
+            address,
+        );
     }
-    if columns == EVERY_COLUMN {
-        return from_end(address, 0x200 + 36 * lines);
+    if member.columns == EVERY_COLUMN {
+        return from_end(address, 0x200 + 36 * member.lines);
     }
-    map::reserved_as(Kind::Pwm, member, lines, columns, address)
+    map::reserved_as(
+        Kind::Pwm,
+        member.code,
+        member.lines,
+        member.columns,
+        address,
+    )
 }
 
 // The group byte x places behind 00Ch, with every column: the fifth byte of a line has sinks 16 and 17 alone.
@@ -55,24 +68,42 @@ fn switch_mask(lines: usize, x: usize) -> u8
 }
 
 // 000h to 0FFh.
-pub(crate) fn low_mask(member: usize, lines: usize, columns: u32, address: usize) -> u8
-    requires { (lines ≡ lines_of member) × (columns ≡ columns_of member) × (address < 0x100) }
-    ensures { result ≡ reserved_of member address }
+pub(crate) fn low_mask(member: Member, address: usize) -> u8
+    requires { address < 0x100 }
+    ensures { result ≡ reserved_of member.code address }
 {
     if 0x064 <= address {
         return 255;
     }
     if address < 0x00C {
-        return map::reserved_as(Kind::Config, member, lines, columns, address);
+        return map::reserved_as(
+            Kind::Config,
+            member.code,
+            member.lines,
+            member.columns,
+            address,
+        );
     }
     if address < 0x043 {
-        if columns == EVERY_COLUMN {
-            return group_mask(lines, address - 0x00C);
+        if member.columns == EVERY_COLUMN {
+            return group_mask(member.lines, address - 0x00C);
         }
-        return map::reserved_as(Kind::Group, member, lines, columns, address);
+        return map::reserved_as(
+            Kind::Group,
+            member.code,
+            member.lines,
+            member.columns,
+            address,
+        );
     }
-    if columns == EVERY_COLUMN {
-        return switch_mask(lines, address - 0x043);
+    if member.columns == EVERY_COLUMN {
+        return switch_mask(member.lines, address - 0x043);
     }
-    map::reserved_as(Kind::Switch, member, lines, columns, address)
+    map::reserved_as(
+        Kind::Switch,
+        member.code,
+        member.lines,
+        member.columns,
+        address,
+    )
 }

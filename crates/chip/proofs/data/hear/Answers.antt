@@ -7,28 +7,13 @@ use Rattle.chip.proofs.Steps.{heard_none, heard_reset, heard_more, heard_all, he
 use Rattle.chip.proofs.data.hear.Goals as goal
 
 pub loop-i-init : goal.loop-i-init
-loop-i-init c = (heard_none _ _ _ _ _ c.requires.0, omega arith)
-
-pub hear_dots-requires : goal.hear_dots-requires
-hear_dots-requires c = (c.loop-i.invariant.0.size, c.requires.1, c.requires.2, omega arith, omega arith)
-
-pub shape_of-registers-then-on : goal.shape_of-registers-then-on
-shape_of-registers-then-on c = omega (arith, c.loop-i.invariant.0.size)
+loop-i-init c = (heard_none _ _ _ _ _, omega arith)
 
 pub returns-then-on : goal.returns-then-on
 returns-then-on c = heard_dots _ _ _ _ _ _ _ c.loop-i.invariant.0 _ (eq-eqb _ _ c.if-on.true) c.hear_dots.ensures
 
-pub shape_of-registers-else-on : goal.shape_of-registers-else-on
-shape_of-registers-else-on c = omega (arith, c.loop-i.invariant.0.size)
-
 pub returns-else-on : goal.returns-else-on
 returns-else-on c = heard_unheard _ _ _ _ _ _ _ c.loop-i.invariant.0 (ne_eqb _ _ c.if-on.false) c.if-address-ge256.true
-
-pub hear_low-requires : goal.hear_low-requires
-hear_low-requires c = (c.loop-i.invariant.0.size, c.requires.1, c.requires.2, c.if-address-ge256.false)
-
-pub shape_of-registers-then-not-hear_low : goal.shape_of-registers-then-not-hear_low
-shape_of-registers-then-not-hear_low c = omega (arith, c.loop-i.invariant.0.size)
 
 pub returns-then-not-hear_low : goal.returns-then-not-hear_low
 returns-then-not-hear_low c =
@@ -41,9 +26,6 @@ loop-i-preserved c = (
       c.hear_low.ensures.stores,
   omega arith,
 )
-
-pub shape_of-registers : goal.shape_of-registers
-shape_of-registers c = omega (arith, c.loop-i.invariant.0.size)
 
 pub returns : goal.returns
 returns c = heard_all _ _ _ _ _ _ _ c.loop-i.invariant.0 c.loop-i-test.false

@@ -5,30 +5,15 @@ use Rattle.chip.proofs.Steps.{heard_none, heard_past, heard_all, dots_more}
 use Rattle.chip.proofs.data.hear_dots.Goals as goal
 
 pub loop-i-init : goal.loop-i-init
-loop-i-init c = heard_none _ _ _ _ _ c.requires.0
-
-pub shape_of-registers-then-address-gt907 : goal.shape_of-registers-then-address-gt907
-shape_of-registers-then-address-gt907 c = omega (arith, c.loop-i.invariant.size)
+loop-i-init c = heard_none _ _ _ _ _
 
 pub returns-then-address-gt907 : goal.returns-then-address-gt907
 returns-then-address-gt907 c = heard_past _ _ _ _ _ _ _ c.loop-i.invariant (omega arith)
-
-pub bounds-registers-address : goal.bounds-registers-address
-bounds-registers-address c = omega (arith, c.loop-i.invariant.size)
-
-pub dot_mask-requires : goal.dot_mask-requires
-dot_mask-requires c = (c.requires.1, c.requires.2, omega arith)
-
-pub bounds-registers-address-in-loop-i : goal.bounds-registers-address-in-loop-i
-bounds-registers-address-in-loop-i c = omega (arith, c.loop-i.invariant.size)
 
 pub loop-i-preserved : goal.loop-i-preserved
 loop-i-preserved c =
     dots_more _ _ _ _ _ _ c.dot_mask.result _ (omega arith) (omega arith) (omega arith)
     c.loop-i.invariant c.dot_mask.ensures c.merge.ensures
-
-pub shape_of-registers : goal.shape_of-registers
-shape_of-registers c = omega (arith, c.loop-i.invariant.size)
 
 pub returns : goal.returns
 returns c = heard_all _ _ _ _ _ _ _ c.loop-i.invariant c.loop-i-test.false

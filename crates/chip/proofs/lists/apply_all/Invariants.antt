@@ -1,11 +1,7 @@
 -- `chip::lists::apply_all` meets its contract.
 -- Assumes nothing.
-use Prim.Native.Nat.{◌-◌}
 use Rattle.chip.proofs.Steps.{Applied}
 use Rattle.chip.proofs.lists.apply_all.Given as goal
 
 abbrev pub invariant-loop-i : goal.invariant-loop-i
-invariant-loop-i l = Applied l.member l.bus l.pins l.list l.n l.initial.registers l.registers l.at l.i
-
-abbrev pub decreases-loop-i : goal.decreases-loop-i
-decreases-loop-i l = l.n - l.i
+invariant-loop-i l = Applied l.member.code l.bus l.pins l.list l.n l.initial.registers l.registers l.at l.i
