@@ -10,19 +10,29 @@ static COLUMNS: [u32; 5] = [0x3FFFF, 0x3FFFF, 0x3FFFF, 0x30303, 0x3FFFF];
 // How many switch bytes, from 043h on, the member's summary table lists. The LP5864 lists one more than its lines have.
 static SWITCH_BYTES: [usize; 5] = [33, 3, 13, 21, 24];
 
-// The reserved bits of 000h to 00Bh, and those of the LP5861T, whose summary table adds some.
-static COMMON_MASKS: [u8; 12] = [
+// The reserved bits of 000h to 00Bh: the summary table of the LP5861T adds some.
+const COMMON_MASKS: [u8; 12] = [
     0xFE, 0x80, 0xF0, 0x00, 0x00, 0x00, 0x00, 0x00, 0x00, 0x80, 0x80, 0x80,
 ];
 
-static LP5861T_MASKS: [u8; 12] = [
+const LP5861T_MASKS: [u8; 12] = [
     0xFE, 0xF8, 0xF9, 0x03, 0xF1, 0x00, 0x00, 0x00, 0x00, 0x80, 0x80, 0x80,
 ];
 
+static MASKS: [[u8; 12]; 5] = [
+    COMMON_MASKS,
+    LP5861T_MASKS,
+    COMMON_MASKS,
+    COMMON_MASKS,
+    COMMON_MASKS,
+];
+
 // The reset values of 000h to 00Bh: all five summary tables have the same.
-static COMMON_RESETS: [u8; 12] = [
+const COMMON_RESETS: [u8; 12] = [
     0x00, 0x5E, 0x00, 0x00, 0x47, 0xFF, 0xFF, 0xFF, 0xFF, 0x40, 0x40, 0x40,
 ];
+
+static RESETS: [[u8; 12]; 5] = [COMMON_RESETS; 5];
 
 // The scan lines of a member; a code above 4 has none.
 #[tactic(auto, unfolding(crate::specs::Map::lines_of))]
@@ -47,23 +57,27 @@ pub fn switch_bytes(member: usize) -> usize
     if member < 5 { SWITCH_BYTES[member] } else { 0 }
 }
 
-// The reserved bits of the first twelve registers.
+// The reserved bits of the first twelve registers, a row a member; a code above 4 has the common ones.
 #[tactic(auto, unfolding(crate::specs::Map::first_masks))]
 pub fn first_masks(member: usize) -> [u8; 12]
     ensures { result ≡ first_masks member }
 {
-    if member == 1 {
-        LP5861T_MASKS
+    if member < 5 {
+        MASKS[member]
     } else {
         COMMON_MASKS
     }
 }
 
-// The reset values of the first twelve registers: every member's.
-pub fn first_resets() -> [u8; 12]
+// The reset values of the first twelve registers, a row a member.
+pub fn first_resets(member: usize) -> [u8; 12]
     ensures { result ≡ first_resets }
 {
-    COMMON_RESETS
+    if member < 5 {
+        RESETS[member]
+    } else {
+        COMMON_RESETS
+    }
 }
 
 // The reserved bits of one of them; all bits elsewhere.
@@ -83,7 +97,7 @@ pub(crate) fn first_reset(member: usize, address: usize) -> u8
     ensures { result ≡ first_reset member address }
 {
     if member < 5 && address < 12 {
-        first_resets()[address]
+        first_resets(member)[address]
     } else {
         0
     }
