@@ -4,7 +4,7 @@ use Rattle.std.specs.Prelude.{◌≡◌, true, false, ℕ, suc, ◌^◌}
 use Rattle.std.proofs.Math.Path.{refl, ap}
 use Rattle.std.proofs.Common.{◌∙◌, arith}
 use mathlib.Core.List.{List, []}
-use Rattle.map.specs.declared.refusals.Answer.{Answer}
+use Rattle.map.specs.Refusals.{Answer}
 use Rattle.map.specs.declared.dots.Field.{Field}
 use Rattle.map.specs.declared.dots.Field as fields
 use Rattle.map.specs.Refusals.{accepted}

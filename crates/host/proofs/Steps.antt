@@ -14,8 +14,8 @@ use lib.ListN.{length, get_or, set, length-set}
 use Rattle.map.specs.declared.kinds.Kind.{Kind}
 use Rattle.map.specs.declared.dots.Field.{Field}
 use Rattle.map.specs.declared.dots.Field as fields
-use Rattle.map.specs.declared.refusals.Answer.{Answer}
-use Rattle.map.specs.declared.refusals.Answer.TheVariants.{Accepted, Refused}
+use Rattle.map.specs.Refusals.{Answer}
+use Rattle.std.specs.Prelude.{Ok, Err}
 use Rattle.map.specs.declared.refusals.Numbers.{Numbers}
 use Rattle.map.specs.declared.refusals.Refusal.{Refusal}
 use Rattle.map.specs.declared.refusals.Refusal.TheVariants.{NotWritable, ReservedBit, Level, Unsound, Locked}
@@ -47,7 +47,7 @@ and_no true b e = e
 and_no false b e = refl
 
 module _ (h : Header) (settings image : List ℕ) where
-  pub not_opened : (x : Refusal) (answer : Answer) → answer ≡ open_answer h.member h.bus h.pins → answer ≡ Refused x →
+  pub not_opened : (x : Refusal) (answer : Answer) → answer ≡ open_answer h.member h.bus h.pins → answer ≡ Err x →
       sound_of (record_of h settings image) ≡ false
   unfolding sound_of opens
   not_opened x answer e n = rw (sym e ∙ n) refl
@@ -65,7 +65,7 @@ module _ (h : Header) (settings image : List ℕ) where
   unfolding sound_of
   marks_decide r o s i e = rw (o, s, i) (sym e)
 
-pub is_accepted : (m b p : ℕ) (answer : Answer) → answer ≡ open_answer m b p → answer ≡ Accepted → opens m b p ≡ true
+pub is_accepted : (m b p : ℕ) (answer : Answer) → answer ≡ open_answer m b p → answer ≡ (Ok tt) → opens m b p ≡ true
 unfolding opens
 is_accepted m b p answer e n = rw (sym e ∙ n) refl
 
@@ -82,25 +82,25 @@ reset_is kind m a reset ek e = e ∙ rw ek refl
 
 -- the answers to a byte, in the order of the refusals
 module _ (h : Header) (a v mask : ℕ) (em : mask ≡ reserved_of h.member a) where
-  pub not_writable : 255 ≤ mask → Refused NotWritable ≡ register_answer h a v
+  pub not_writable : 255 ≤ mask → Err NotWritable ≡ register_answer h a v
   unfolding register_answer writable_of
   not_writable l = rw (sym em, le-ltb mask 255 l) refl
 
-  pub is_locked_out : mask < 255 → lock_keeps h a ≡ true → Refused Locked ≡ register_answer h a v
+  pub is_locked_out : mask < 255 → lock_keeps h a ≡ true → Err Locked ≡ register_answer h a v
   unfolding register_answer writable_of
   is_locked_out l k = rw (sym em, lt-ltb mask 255 l, k) refl
 
   module _ (l : mask < 255) (k : lock_keeps h a ≡ false) where
-    pub value_wide : 255 < v → Refused ReservedBit ≡ register_answer h a v
+    pub value_wide : 255 < v → Err ReservedBit ≡ register_answer h a v
     unfolding register_answer writable_of ok_byte
     value_wide w = rw (sym em, lt-ltb mask 255 l, k, le-ltb v 256 (omega arith)) refl
 
     module _ (reset : ℕ) (hv : v < 256) (er : reset ≡ reset_of h.member a) where
-      pub bit_differs : (bit_and v mask ≡ bit_and reset mask → ⊥) → Refused ReservedBit ≡ register_answer h a v
+      pub bit_differs : (bit_and v mask ≡ bit_and reset mask → ⊥) → Err ReservedBit ≡ register_answer h a v
       unfolding register_answer writable_of
       bit_differs n = rw (ok_masked h.member a v mask reset hv (sym em) (sym er), sym em, lt-ltb mask 255 l, k, ne_eqb _ _ n) refl
 
-      pub bits_kept : bit_and v mask ≡ bit_and reset mask → Accepted ≡ register_answer h a v
+      pub bits_kept : bit_and v mask ≡ bit_and reset mask → (Ok tt) ≡ register_answer h a v
       unfolding register_answer writable_of
       bits_kept e = rw (ok_masked h.member a v mask reset hv (sym em) (sym er), sym em, lt-ltb mask 255 l, k, eq-eqb _ _ e) refl
 
@@ -108,35 +108,35 @@ module _ (h : Header) (a v mask : ℕ) (em : mask ≡ reserved_of h.member a) wh
 
 -- a Lamp's value is at most the largest level of the settings
 pub lamp_is : (h : Header) (settings : List ℕ) (l s v top : ℕ) (r : Answer) → top ≡ top_level settings →
-    r ≡ when_dot h l s (cond (leb v top) Accepted (Refused Level)) → r ≡ lamp_answer h settings l s v
+    r ≡ when_dot h l s (cond (leb v top) (Ok tt) (Err Level)) → r ≡ lamp_answer h settings l s v
 unfolding lamp_answer
 lamp_is h settings l s v top r t e = e ∙ rw t refl
 
 -- 14 comes first, and then the arguments decide
 module _ (r : Record) (q : Setting) (lent : List ℕ) (answer : Answer) (e : answer ≡ sound_answer r) where
-  pub unsound_answers : (x : Refusal) → answer ≡ Refused x → answer ≡ setting_answer r q lent
+  pub unsound_answers : (x : Refusal) → answer ≡ Err x → answer ≡ setting_answer r q lent
   unfolding sound_answer setting_answer when_sound
   unsound_answers x n = go (sound_of r) e
     where
-      go : (b : Bool) → answer ≡ cond b Accepted (Refused Unsound) →
-          answer ≡ cond b (arguments_answer r.header r.settings q lent) (Refused Unsound)
+      go : (b : Bool) → answer ≡ cond b (Ok tt) (Err Unsound) →
+          answer ≡ cond b (arguments_answer r.header r.settings q lent) (Err Unsound)
       go true a = absurd (false≢true (sym (ap accepted n) ∙ ap accepted a))
       go false a = a
 
-  pub arguments_decide : (new : Answer) → answer ≡ Accepted → new ≡ arguments_answer r.header r.settings q lent → new ≡ setting_answer r q lent
+  pub arguments_decide : (new : Answer) → answer ≡ (Ok tt) → new ≡ arguments_answer r.header r.settings q lent → new ≡ setting_answer r q lent
   unfolding sound_answer setting_answer when_sound
-  arguments_decide new a n = n ∙ rw (passed (sound_of r) Accepted Unsound (sym (ap accepted e) ∙ ap accepted a)).0 refl
+  arguments_decide new a n = n ∙ rw (passed (sound_of r) (Ok tt) Unsound (sym (ap accepted e) ∙ ap accepted a)).0 refl
 
 -- ---- an answer that was taken apart
 
-pub taken : (answer : Answer) → answer ≡ Accepted → accepted answer ≡ true
+pub taken : (answer : Answer) → answer ≡ (Ok tt) → accepted answer ≡ true
 taken answer e = ap accepted e
 
-pub host_accepted : (answer : Answer) (m b p : ℕ) → answer ≡ Accepted → open_host answer m b p ≡ opened m b p
+pub host_accepted : (answer : Answer) (m b p : ℕ) → answer ≡ (Ok tt) → open_host answer m b p ≡ opened m b p
 unfolding open_host
 host_accepted answer m b p e = rw (taken answer e) refl
 
-pub host_refused : (answer : Answer) (m b p : ℕ) (x : Refusal) → answer ≡ Refused x → open_host answer m b p ≡ opened 0 0 0
+pub host_refused : (answer : Answer) (m b p : ℕ) (x : Refusal) → answer ≡ Err x → open_host answer m b p ≡ opened 0 0 0
 unfolding open_host
 host_refused answer m b p x e = rw (ap accepted e) refl
 
@@ -149,15 +149,6 @@ pub open_is : (m b p : ℕ) (x : Answer) (n : Numbers) (r : Record) → x ≡ op
     r ≡ open_host x m b p → ◌≡◌ {A = Changed} (record { answer = x; numbers = n; host = r }) (open_of m b p)
 unfolding open_of
 open_is m b p x n r e en q = rw (q, en, e) refl
-
--- an image of 908 bytes becomes the new one wherever the answer is Accepted
-pub whole_image : (answer : Answer) (image new : List ℕ) → length image ≡ 908 →
-    cond (accepted answer && eqb (length image) 908) new image ≡ cond (accepted answer) new image
-whole_image answer image new h = go (accepted answer)
-  where
-    go : (b : Bool) → cond (b && eqb (length image) 908) new image ≡ cond b new image
-    go true = rw (eq-eqb (length image) 908 h) refl
-    go false = refl
 
 pub lost_is : (r : Record) (x : Answer) (n : Numbers) (h : Header) (image : List ℕ) → x ≡ sound_answer r → n ≡ numbers_of (answer_number x ∷ []) →
     h ≡ cond (accepted x) (marked_as r.header free) r.header → image ≡ cond (accepted x) (reset_image r.header.member) r.image →
@@ -189,7 +180,7 @@ module _ (h : Header) (settings image lent : List ℕ) (answer : Answer) where
   abbrev Answers : Setting → Type 0
   Answers q = answer ≡ setting_answer (record_of h settings image) q lent
 
-  accepted_arguments : (q : Setting) → Answers q → answer ≡ Accepted → accepted (arguments_answer h settings q lent) ≡ true
+  accepted_arguments : (q : Setting) → Answers q → answer ≡ (Ok tt) → accepted (arguments_answer h settings q lent) ≡ true
   accepted_arguments q e a = (setting_taken (record_of h settings image) q lent (sym (ap accepted e) ∙ taken answer a)).1
 
   -- `new` is what `put_setting` promises
@@ -202,19 +193,19 @@ module _ (h : Header) (settings image lent : List ℕ) (answer : Answer) where
   unfolding setting_numbers
   numbered q n en e = en ∙ rw e refl
 
-  puts : (q : Setting) (new : List ℕ) → answer ≡ Accepted → new ≡ put_setting settings q lent → Puts q new
+  puts : (q : Setting) (new : List ℕ) → answer ≡ (Ok tt) → new ≡ put_setting settings q lent → Puts q new
   puts q new a e = e ∙ rw (taken answer a) refl
 
-  pub refused_puts : (q : Setting) (x : Refusal) → answer ≡ Refused x → Puts q settings
+  pub refused_puts : (q : Setting) (x : Refusal) → answer ≡ Err x → Puts q settings
   refused_puts q x e = rw (ap accepted e) refl
 
-  pub register_puts : (a v : ℕ) (new : List ℕ) → answer ≡ Accepted → new ≡ set settings a (v % 256) → Answers (Register a v) → Puts (Register a v) new
+  pub register_puts : (a v : ℕ) (new : List ℕ) → answer ≡ (Ok tt) → new ≡ set settings a (v % 256) → Answers (Register a v) → Puts (Register a v) new
   unfolding arguments_answer put_setting
   register_puts a v new x e q =
       puts (Register a v) new x
       (e ∙ ap (set settings a) (mod-eq_of_lt (ok_fit h.member a v (register_taken h a v (accepted_arguments (Register a v) q x)).fits).byte))
 
-  pub lamp_puts : (l s v : ℕ) (new : List ℕ) → answer ≡ Accepted →
+  pub lamp_puts : (l s v : ℕ) (new : List ℕ) → answer ≡ (Ok tt) →
       new ≡ cond (ltb l 11 && ltb s 18) (put_level settings (dot_number l s) v) settings → Answers (Lamp l s v) → Puts (Lamp l s v) new
   unfolding arguments_answer put_setting
   lamp_puts l s v new x e q =
@@ -228,7 +219,7 @@ module _ (h : Header) (settings image lent : List ℕ) (answer : Answer) where
   field_puts f l s v top w t d b =
       rw (d, small_value v top b t) (ap (put_field f settings l s) (mod-eq_of_lt (omega arith)))
 
-  pub group_puts : (l s g : ℕ) (new : List ℕ) → answer ≡ Accepted →
+  pub group_puts : (l s g : ℕ) (new : List ℕ) → answer ≡ (Ok tt) →
       new ≡ cond (is_dot h.member l s) (put_field fields.TheVariants.Group settings l s (g % 256 % 2 ^ width_of fields.TheVariants.Group)) settings →
       Answers (Group l s g) → Puts (Group l s g) new
   unfolding arguments_answer put_setting
@@ -236,7 +227,7 @@ module _ (h : Header) (settings image lent : List ℕ) (answer : Answer) where
       let t = field_taken h l s g 3 (accepted_arguments (Group l s g) q x) in
       puts (Group l s g) new x (e ∙ field_puts fields.TheVariants.Group l s g 3 group_width (omega arith) t.dot t.fits)
 
-  pub switch_puts : (l s g : ℕ) (new : List ℕ) → answer ≡ Accepted →
+  pub switch_puts : (l s g : ℕ) (new : List ℕ) → answer ≡ (Ok tt) →
       new ≡ cond (is_dot h.member l s) (put_field fields.TheVariants.Switch settings l s (g % 256 % 2 ^ width_of fields.TheVariants.Switch)) settings →
       Answers (Switch l s g) → Puts (Switch l s g) new
   unfolding arguments_answer put_setting
@@ -244,7 +235,7 @@ module _ (h : Header) (settings image lent : List ℕ) (answer : Answer) where
       let t = field_taken h l s g 1 (accepted_arguments (Switch l s g) q x) in
       puts (Switch l s g) new x (e ∙ field_puts fields.TheVariants.Switch l s g 1 switch_width (omega arith) t.dot t.fits)
 
-  pub scene_puts : (new : List ℕ) → answer ≡ Accepted → new ≡ cond (scene_sized lent) (put_scene lent settings (scene_count lent)) settings →
+  pub scene_puts : (new : List ℕ) → answer ≡ (Ok tt) → new ≡ cond (scene_sized lent) (put_scene lent settings (scene_count lent)) settings →
       Answers Scene → Puts Scene new
   unfolding arguments_answer put_setting
   scene_puts new x e q = puts Scene new x (e ∙ rw (scene_taken h settings lent (accepted_arguments Scene q x)).sized refl)

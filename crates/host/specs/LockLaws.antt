@@ -3,7 +3,7 @@
 use Rattle.std.specs.Prelude.{◌≡◌, refl, ◌⊎◌, Bool, true, false, not, ◌&&◌, ◌||◌, List, ℕ, zero, suc, ◌≤◌, ◌<◌, leb, eqb, get_or}
 use Rattle.std.proofs.Common.{sym, ◌∙◌, subst, inl, inr, true≢false, arith, leb-true, le-leb, eqb-true, eq-eqb, get_or-set_other}
 use Rattle.map.specs.declared.dots.Field.{Field}
-use Rattle.map.specs.declared.refusals.Answer.TheVariants.{Accepted}
+use Rattle.std.specs.Prelude.{Ok, Err}
 use Rattle.map.specs.declared.refusals.Refusal.TheVariants.{Unsound, NotLockable}
 use Rattle.map.specs.Refusals.{accepted}
 use Rattle.map.specs.Map.{address_of}
@@ -135,7 +135,7 @@ pub lock_taken : (r : Record) → accepted (lock_answer r) ≡ true → LockTake
 unfolding lock_answer when_sound is_lockable
 lock_taken r e =
     let s = passed (sound_of r) _ Unsound e in
-    let able = (passed (not (is_locked r.header) && (is_on r.image && same_trims r.settings r.image)) Accepted NotLockable s.1).0 in
+    let able = (passed (not (is_locked r.header) && (is_on r.image && same_trims r.settings r.image)) (Ok tt) NotLockable s.1).0 in
     let rest = and_right (not (is_locked r.header)) (is_on r.image && same_trims r.settings r.image) able in
     record {
       sound = s.0;

@@ -3,8 +3,8 @@
 -- of a scene. The lock is that of document 02, Q-5.
 -- Assumes nothing.
 use Rattle.std.specs.Prelude.{Bool, cond, not, ◌&&◌, ◌||◌, List, [], ◌∷◌, ℕ, zero, suc, ◌+◌, ◌*◌, ◌%◌, leb, eqb, length, get_or, set}
-use Rattle.map.specs.declared.refusals.Answer.{Answer}
-use Rattle.map.specs.declared.refusals.Answer.TheVariants.{Accepted, Refused}
+use Rattle.map.specs.Refusals.{Answer}
+use Rattle.std.specs.Prelude.{Ok, Err}
 use Rattle.map.specs.declared.refusals.Refusal.TheVariants.{NotWritable, ReservedBit, NoDot, Level, GroupOrState, SceneLength, Unsound, Locked, NotLockable}
 use Rattle.map.specs.declared.dots.Field as fields
 use Rattle.map.specs.Refusals.{answer_number, numbers_of, accepted, open_answer, opens}
@@ -16,6 +16,7 @@ use Rattle.calls.specs.declared.Setting.{Setting}
 use Rattle.calls.specs.declared.Setting.TheVariants.{Register, Lamp, Group, Switch, Scene}
 use Rattle.host.specs.declared.Header.{Header}
 use Rattle.host.specs.declared.Record.{Record}
+use Rattle.host.specs.declared.RecordRef.{RecordRef}
 use Rattle.host.specs.declared.Changed.{Changed}
 
 -- ---- The record
@@ -27,6 +28,10 @@ header_of m b p marks = record { member = m; bus = b; pins = p; marks = marks }
 -- "and two images of 908 bytes: the settings, and the chip as the host believes it."
 abbrev pub record_of : Header → List ℕ → List ℕ → Record
 record_of h settings image = record { header = h; settings = settings; image = image }
+
+-- a record whose images are lent
+abbrev pub record_behind : RecordRef → Record
+record_behind r = record_of r.header r.settings.now r.image.now
 
 -- ---- The lock
 
@@ -77,7 +82,7 @@ sound_of r =
 
 -- "Every call but Open .. first refuses an unsound record with 14.": Faults too, since document 02, Q-2
 unfoldable pub when_sound : Record → Answer → Answer
-when_sound r answer = cond (sound_of r) answer (Refused Unsound)
+when_sound r answer = cond (sound_of r) answer (Err Unsound)
 
 -- ---- Open
 
@@ -104,25 +109,25 @@ open_of m b p = record {
 unfoldable pub register_answer : Header → ℕ → ℕ → Answer
 register_answer h a v =
     cond (writable_of h.member a)
-    (cond (lock_keeps h a) (Refused Locked)
-    (cond (ok_byte h.member a v) Accepted (Refused ReservedBit)))
-    (Refused NotWritable)
+    (cond (lock_keeps h a) (Err Locked)
+    (cond (ok_byte h.member a v) (Ok tt) (Err ReservedBit)))
+    (Err NotWritable)
 
 -- ---- Lamp
 
 -- "6: no such dot."
 unfoldable pub when_dot : Header → ℕ → ℕ → Answer → Answer
-when_dot h l s answer = cond (is_dot h.member l s) answer (Refused NoDot)
+when_dot h l s answer = cond (is_dot h.member l s) answer (Err NoDot)
 
 -- "7: level above 255 when the settings' data mode is 0 or 1, above 65,535 otherwise."
 unfoldable pub lamp_answer : Header → List ℕ → ℕ → ℕ → ℕ → Answer
-lamp_answer h settings l s v = when_dot h l s (cond (leb v (top_level settings)) Accepted (Refused Level))
+lamp_answer h settings l s v = when_dot h l s (cond (leb v (top_level settings)) (Ok tt) (Err Level))
 
 -- ---- Group and Switch
 
 -- "6: no such dot. 8: group above 3, state above 1."
 unfoldable pub field_answer : Header → ℕ → ℕ → ℕ → ℕ → Answer
-field_answer h l s v top = when_dot h l s (cond (leb v top) Accepted (Refused GroupOrState))
+field_answer h l s v top = when_dot h l s (cond (leb v top) (Ok tt) (Err GroupOrState))
 
 -- ---- Scene
 
@@ -159,9 +164,9 @@ unfoldable pub scene_answer : Header → List ℕ → List ℕ → Answer
 scene_answer h settings bytes =
     cond (scene_sized bytes)
     (cond (all_from (scene_has_dot h.member bytes) 0 (scene_count bytes))
-    (cond (all_from (scene_fits (top_level settings) bytes) 0 (scene_count bytes)) Accepted (Refused Level))
-    (Refused NoDot))
-    (Refused SceneLength)
+    (cond (all_from (scene_fits (top_level settings) bytes) 0 (scene_count bytes)) (Ok tt) (Err Level))
+    (Err NoDot))
+    (Err SceneLength)
 
 -- "It acts as n Lamp calls in order": the first k of them
 unfoldable pub put_scene : List ℕ → List ℕ → ℕ → List ℕ
@@ -230,7 +235,7 @@ scene_of r bytes = setting_of r Scene bytes
 
 -- "Every call but Open .. first refuses an unsound record with 14": Power lost refuses nothing else
 unfoldable pub sound_answer : Record → Answer
-sound_answer r = when_sound r Accepted
+sound_answer r = when_sound r (Ok tt)
 
 -- "the chip image has reset values and the settings are kept". Q-5: "Reset and Power lost release it": the record after either, where it is
 -- accepted
@@ -257,7 +262,7 @@ is_lockable r = not (is_locked r.header) && (is_on r.image && same_trims r.setti
 
 -- "Answers: .. 18"
 unfoldable pub lock_answer : Record → Answer
-lock_answer r = when_sound r (cond (is_lockable r) Accepted (Refused NotLockable))
+lock_answer r = when_sound r (cond (is_lockable r) (Ok tt) (Err NotLockable))
 
 -- "A record gets a lock .., set by a call of its own, once until it is released": only the mark changes
 unfoldable pub lock_of : Record → Changed

@@ -1,38 +1,33 @@
 // What each call answers: the refusals in the order that the calls check them.
 ghost use Rattle.std.specs.Prelude.{◌≡◌, cond, leb};
-ghost use Rattle.map.specs.declared.refusals.Answer.TheVariants.{Accepted, Refused};
-ghost use Rattle.host.specs.Record.{record_of, sound_of, sound_answer, register_answer, when_dot, arguments_answer, setting_answer};
+ghost use Rattle.host.specs.Record.{record_behind, sound_of, sound_answer, register_answer, when_dot, arguments_answer, setting_answer};
 
-use crate::{Header, locks, scenes};
+use crate::{Header, RecordRef, locks, scenes};
 use calls::Setting;
 use map::{Answer, Refusal};
 
-// Whether a record is sound, given in its parts.
-pub fn sound_parts<'a>(header: Header, settings: &'a [u8], image: &'a [u8]) -> bool
-    ensures { result ≡ sound_of (record_of header settings.now image.now) }
+// Whether a record is sound, whose images are lent.
+#[tactic(auto, unfolding(crate::specs::Record::sound_of, map::specs::Refusals::opens))]
+pub fn sound_parts(r: RecordRef<'_>) -> bool
+    ensures { result ≡ sound_of (record_behind r.entry) }
 {
-    let member = header.member as usize;
-    let answer = map::open_answer(member, header.bus as usize, header.pins as usize);
-    let Answer::Accepted = answer else {
-        return false;
-    };
-    if !images::image_ok(member, settings) {
-        return false;
-    }
-    if !images::image_ok(member, image) {
-        return false;
-    }
-    locks::marks_ok(header, settings, image)
+    let member = r.header.member as usize;
+    map::open_answer(member, r.header.bus as usize, r.header.pins as usize).is_ok()
+        && images::image_ok(member, r.settings)
+        && images::image_ok(member, r.image)
+        && locks::marks_ok(r)
 }
 
 // What a call answers that refuses an unsound record and nothing else.
-pub fn sound_answer<'a>(header: Header, settings: &'a [u8], image: &'a [u8]) -> Answer
-    ensures { result ≡ sound_answer (record_of header settings.now image.now) }
+#[tactic(auto, unfolding(crate::specs::Record::sound_answer, crate::specs::Record::when_sound))]
+pub fn sound_answer(r: RecordRef<'_>) -> Answer
+    ensures { result ≡ sound_answer (record_behind r.entry) }
 {
-    if !sound_parts(header, settings, image) {
-        return Answer::Refused(Refusal::Unsound);
+    if sound_parts(r) {
+        Ok(())
+    } else {
+        Err(Refusal::Unsound)
     }
-    Answer::Accepted
 }
 
 // A byte is refused for an address with no writable bit, for a locked address, or for a reserved bit that is not the reset value's; a
@@ -46,23 +41,24 @@ fn register(header: Header, address: usize, value: usize) -> Answer
     let columns = map::columns(member);
     let mask = map::reserved_as(kind, member, lines, columns, address);
     if 255 <= mask {
-        return Answer::Refused(Refusal::NotWritable);
+        return Err(Refusal::NotWritable);
     }
     if locks::lock_keeps(header, address) {
-        return Answer::Refused(Refusal::Locked);
+        return Err(Refusal::Locked);
     }
     if 255 < value {
-        return Answer::Refused(Refusal::ReservedBit);
+        return Err(Refusal::ReservedBit);
     }
     let reset = map::reset_as(kind, member, address);
     if value as u8 & mask == reset & mask {
-        Answer::Accepted
+        Ok(())
     } else {
-        Answer::Refused(Refusal::ReservedBit)
+        Err(Refusal::ReservedBit)
     }
 }
 
 // A dot's level, group or switch: a value above `top` gets `refusal`.
+#[tactic(auto, unfolding(crate::specs::Record::when_dot))]
 fn field(
     header: Header,
     line: usize,
@@ -71,57 +67,42 @@ fn field(
     top: usize,
     refusal: Refusal,
 ) -> Answer
-    ensures { result ≡ when_dot header line sink (cond (leb value top) Accepted (Refused refusal)) }
+    ensures { result ≡ when_dot header line sink (cond (leb value top) (Ok tt) (Err refusal)) }
 {
-    let exists = map::is_dot(header.member as usize, line, sink);
-    if !exists {
-        return Answer::Refused(Refusal::NoDot);
+    if !map::is_dot(header.member as usize, line, sink) {
+        return Err(Refusal::NoDot);
     }
     if top < value {
-        return Answer::Refused(refusal);
+        return Err(refusal);
     }
-    Answer::Accepted
+    Ok(())
 }
 
 // The arguments of a setting, for a sound record.
-fn arguments(header: Header, settings: &[u8], setting: Setting, lent: &[u8]) -> Answer
-    ensures { result ≡ arguments_answer header settings.now setting lent.now }
+fn arguments(r: RecordRef<'_>, setting: Setting, lent: &[u8]) -> Answer
+    ensures { result ≡ arguments_answer r.entry.header r.entry.settings.now setting lent.now }
 {
     match setting {
-        Setting::Register { address, value } => register(header, address, value),
+        Setting::Register { address, value } => register(r.header, address, value),
         Setting::Lamp { line, sink, level } => {
-            field(
-                header,
-                line,
-                sink,
-                level,
-                dots::top_level(settings),
-                Refusal::Level,
-            )
+            let top = dots::top_level(r.settings);
+            field(r.header, line, sink, level, top, Refusal::Level)
         }
         Setting::Group { line, sink, group } => {
-            field(header, line, sink, group, 3, Refusal::GroupOrState)
+            field(r.header, line, sink, group, 3, Refusal::GroupOrState)
         }
         Setting::Switch { line, sink, state } => {
-            field(header, line, sink, state, 1, Refusal::GroupOrState)
+            field(r.header, line, sink, state, 1, Refusal::GroupOrState)
         }
-        Setting::Scene => scenes::answer(header, settings, lent),
+        Setting::Scene => scenes::answer(r, lent),
     }
 }
 
 // What a setting answers; a scene's bytes are lent.
-pub fn setting_answer<'a>(
-    header: Header,
-    settings: &'a [u8],
-    image: &'a [u8],
-    setting: Setting,
-    lent: &[u8],
-) -> Answer
-    ensures { result ≡ setting_answer (record_of header settings.now image.now) setting lent.now }
+#[tactic(auto, unfolding(crate::specs::Record::setting_answer, crate::specs::Record::sound_answer, crate::specs::Record::when_sound))]
+pub fn setting_answer(r: RecordRef<'_>, setting: Setting, lent: &[u8]) -> Answer
+    ensures { result ≡ setting_answer (record_behind r.entry) setting lent.now }
 {
-    let answer = sound_answer(header, settings, image);
-    let Answer::Accepted = answer else {
-        return answer;
-    };
-    arguments(header, settings, setting, lent)
+    sound_answer(r)?;
+    arguments(r, setting, lent)
 }

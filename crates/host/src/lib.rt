@@ -5,7 +5,7 @@
 // arguments in the order of its refusals, and a refusal gives the record back unchanged. A setting changes the settings alone;
 // nothing reaches the chip before an update. A lock keeps the two factory-set registers until a reset or a power loss.
 //
-// Each call by value is a few lines over functions on the header and the lent images (`setting_answer`, `put_setting`, `sound_answer`,
+// Each call by value is a few lines over functions on a record whose images are lent (`setting_answer`, `put_setting`, `sound_answer`,
 // `put_lost`, `lock_answer`), which a caller uses that keeps its record elsewhere. They take images of any length: another than 908 is unsound.
 #![tactic(auto)]
 
@@ -15,7 +15,7 @@ mod scenes;
 mod store;
 
 ghost use Rattle.std.specs.Prelude.{◌≡◌};
-ghost use Rattle.host.specs.Record.{sound_of, open_of, setting_of, register_of, lamp_of, group_of, switch_of, scene_of, power_lost_of, lock_of};
+ghost use Rattle.host.specs.Record.{record_behind, sound_of, open_of, setting_of, register_of, lamp_of, group_of, switch_of, scene_of, power_lost_of, lock_of};
 
 pub use answers::{setting_answer, sound_answer, sound_parts};
 use calls::Setting;
@@ -39,6 +39,26 @@ pub struct Record {
     pub image: [u8; 908],
 }
 
+// A record whose images are lent.
+#[derive(Clone, Copy)]
+pub struct RecordRef<'a> {
+    pub header: Header,
+    pub settings: &'a [u8],
+    pub image: &'a [u8],
+}
+
+impl Record {
+    pub fn lent(&self) -> RecordRef<'_>
+        ensures { record_behind result ≡ self.now }
+    {
+        RecordRef {
+            header: self.header,
+            settings: &self.settings,
+            image: &self.image,
+        }
+    }
+}
+
 // What a call answers, the number of that answer with the values that it has, and the host's record that it gives back.
 #[derive(Clone, Copy)]
 pub struct Changed {
@@ -52,7 +72,7 @@ pub struct Changed {
 pub fn sound(r: Record) -> bool
     ensures { result ≡ sound_of r }
 {
-    sound_parts(r.header, &r.settings, &r.image)
+    sound_parts(r.lent())
 }
 
 // A new record of a member, on bus 0 (I2C, with the chip's two address pins) or 1 (SPI, pins 0).
@@ -62,9 +82,9 @@ pub fn open(member: usize, bus: usize, pins: usize) -> Changed
     let answer = map::open_answer(member, bus, pins);
     let host = store::opened(answer, member, bus, pins);
     Changed {
-        answer: answer,
+        answer,
         numbers: map::answer_numbers(answer),
-        host: host,
+        host,
     }
 }
 
@@ -72,12 +92,11 @@ pub fn open(member: usize, bus: usize, pins: usize) -> Changed
 pub fn set(mut r: Record, setting: Setting, lent: &[u8]) -> Changed
     ensures { result ≡ setting_of r setting lent.now }
 {
-    let header = r.header;
-    let answer = setting_answer(header, &r.settings, &r.image, setting, lent);
-    let numbers = store::put_own(answer, header, &mut r.settings, setting, lent);
+    let answer = setting_answer(r.lent(), setting, lent);
+    let numbers = put_setting(answer, r.header, &mut r.settings, setting, lent);
     Changed {
-        answer: answer,
-        numbers: numbers,
+        answer,
+        numbers,
         host: r,
     }
 }
@@ -87,7 +106,7 @@ pub fn register(r: Record, address: usize, value: u8) -> Changed
     ensures { result ≡ register_of r address value }
 {
     let setting = Setting::Register {
-        address: address,
+        address,
         value: value as usize,
     };
     set(r, setting, b"")
@@ -97,11 +116,7 @@ pub fn register(r: Record, address: usize, value: u8) -> Changed
 pub fn lamp(r: Record, line: usize, sink: usize, level: usize) -> Changed
     ensures { result ≡ lamp_of r line sink level }
 {
-    let setting = Setting::Lamp {
-        line: line,
-        sink: sink,
-        level: level,
-    };
+    let setting = Setting::Lamp { line, sink, level };
     set(r, setting, b"")
 }
 
@@ -110,8 +125,8 @@ pub fn group(r: Record, line: usize, sink: usize, value: usize) -> Changed
     ensures { result ≡ group_of r line sink value }
 {
     let setting = Setting::Group {
-        line: line,
-        sink: sink,
+        line,
+        sink,
         group: value,
     };
     set(r, setting, b"")
@@ -121,11 +136,7 @@ pub fn group(r: Record, line: usize, sink: usize, value: usize) -> Changed
 pub fn switch(r: Record, line: usize, sink: usize, state: usize) -> Changed
     ensures { result ≡ switch_of r line sink state }
 {
-    let setting = Setting::Switch {
-        line: line,
-        sink: sink,
-        state: state,
-    };
+    let setting = Setting::Switch { line, sink, state };
     set(r, setting, b"")
 }
 
@@ -140,12 +151,11 @@ pub fn scene(r: Record, bytes: &[u8]) -> Changed
 pub fn power_lost(mut r: Record) -> Changed
     ensures { result ≡ power_lost_of r }
 {
-    let header = r.header;
-    let answer = sound_answer(header, &r.settings, &r.image);
-    store::lose_own(answer, header, &mut r.image);
-    r.header = locks::marked(answer, header, locks::FREE);
+    let answer = sound_answer(r.lent());
+    put_lost(answer, r.header, &mut r.image);
+    r.header = locks::marked(answer, r.header, FREE);
     Changed {
-        answer: answer,
+        answer,
         numbers: map::answer_numbers(answer),
         host: r,
     }
@@ -156,11 +166,10 @@ pub fn power_lost(mut r: Record) -> Changed
 pub fn lock(mut r: Record) -> Changed
     ensures { result ≡ lock_of r }
 {
-    let header = r.header;
-    let answer = lock_answer(header, &r.settings, &r.image);
-    r.header = locks::marked(answer, header, locks::LOCKED);
+    let answer = lock_answer(r.lent());
+    r.header = locks::marked(answer, r.header, LOCKED);
     Changed {
-        answer: answer,
+        answer,
         numbers: map::answer_numbers(answer),
         host: r,
     }

@@ -1,9 +1,9 @@
 // The lock over the factory-set registers 003h and 004h: a mark of the record, what it keeps, and what Lock answers.
-ghost use Rattle.std.specs.Prelude.{◌≡◌, cond, length};
+ghost use Rattle.std.specs.Prelude.{◌≡◌, cond, get_or};
 ghost use Rattle.map.specs.Refusals.{accepted};
-ghost use Rattle.host.specs.Record.{record_of, marked_as, is_trim, is_locked, lock_keeps, same_trims, marks_ok, is_lockable, lock_answer};
+ghost use Rattle.host.specs.Record.{record_behind, marked_as, is_trim, is_locked, lock_keeps, same_trims, marks_ok, is_lockable, lock_answer};
 
-use crate::{Header, answers};
+use crate::{Header, RecordRef, answers};
 use map::{Answer, Refusal};
 
 // The marks of a record: none, or the lock.
@@ -11,16 +11,15 @@ pub const FREE: u8 = 0;
 
 pub const LOCKED: u8 = 1;
 
+#[tactic(auto, unfolding(crate::specs::Record::is_trim))]
 fn is_trim(address: usize) -> bool
     ensures { result ≡ is_trim address }
 {
-    if address == 0x003 {
-        return true;
-    }
-    address == 0x004
+    address == 0x003 || address == 0x004
 }
 
 // Whether the lock is set.
+#[tactic(auto, unfolding(crate::specs::Record::is_locked))]
 pub fn is_locked(header: Header) -> bool
     ensures { result ≡ is_locked header }
 {
@@ -28,65 +27,56 @@ pub fn is_locked(header: Header) -> bool
 }
 
 // Whether an address is a locked one.
+#[tactic(auto, unfolding(crate::specs::Record::lock_keeps))]
 pub fn lock_keeps(header: Header, address: usize) -> bool
     ensures { result ≡ lock_keeps header address }
 {
-    if !is_trim(address) {
-        return false;
-    }
-    is_locked(header)
+    is_trim(address) && is_locked(header)
+}
+
+// A byte of an image, 0 beyond its end.
+fn byte_at(image: &[u8], address: usize) -> u8
+    ensures { result ≡ get_or image.now address 0 }
+{
+    image.get(address).copied().unwrap_or(0)
 }
 
 // Whether the two images have the same factory-set registers.
-fn same_trims<'a>(settings: &'a [u8], image: &'a [u8]) -> bool
-    requires { (length settings.now ≡ 908) × (length image.now ≡ 908) }
-    ensures { result ≡ same_trims settings.now image.now }
+#[tactic(auto, unfolding(crate::specs::Record::same_trims))]
+fn same_trims(r: RecordRef<'_>) -> bool
+    ensures { result ≡ same_trims r.entry.settings.now r.entry.image.now }
 {
-    if settings[0x003] != image[0x003] {
-        return false;
-    }
-    settings[0x004] == image[0x004]
+    byte_at(r.settings, 0x003) == byte_at(r.image, 0x003)
+        && byte_at(r.settings, 0x004) == byte_at(r.image, 0x004)
 }
 
 // Whether there are such marks, and a locked record has its factory-set registers in the chip image.
-pub(crate) fn marks_ok<'a>(header: Header, settings: &'a [u8], image: &'a [u8]) -> bool
-    requires { (length settings.now ≡ 908) × (length image.now ≡ 908) }
-    ensures { result ≡ marks_ok (record_of header settings.now image.now) }
+#[tactic(auto, unfolding(crate::specs::Record::marks_ok))]
+pub(crate) fn marks_ok(r: RecordRef<'_>) -> bool
+    ensures { result ≡ marks_ok (record_behind r.entry) }
 {
-    if LOCKED < header.marks {
-        return false;
-    }
-    if !is_locked(header) {
-        return true;
-    }
-    same_trims(settings, image)
+    r.header.marks <= LOCKED && (!is_locked(r.header) || same_trims(r))
 }
 
 // Whether a record that is sound can be locked.
-fn is_lockable<'a>(header: Header, settings: &'a [u8], image: &'a [u8]) -> bool
-    requires { (length settings.now ≡ 908) × (length image.now ≡ 908) }
-    ensures { result ≡ is_lockable (record_of header settings.now image.now) }
+#[tactic(auto, unfolding(crate::specs::Record::is_lockable, crate::specs::Record::is_on))]
+fn is_lockable(r: RecordRef<'_>) -> bool
+    ensures { result ≡ is_lockable (record_behind r.entry) }
 {
-    if is_locked(header) {
-        return false;
-    }
-    if image[0x000] % 2 != 1 {
-        return false;
-    }
-    same_trims(settings, image)
+    !is_locked(r.header) && byte_at(r.image, 0x000) % 2 == 1 && same_trims(r)
 }
 
 // What Lock answers.
-pub fn lock_answer<'a>(header: Header, settings: &'a [u8], image: &'a [u8]) -> Answer
-    ensures { result ≡ lock_answer (record_of header settings.now image.now) }
+#[tactic(auto, unfolding(crate::specs::Record::lock_answer, crate::specs::Record::sound_answer, crate::specs::Record::when_sound))]
+pub fn lock_answer(r: RecordRef<'_>) -> Answer
+    ensures { result ≡ lock_answer (record_behind r.entry) }
 {
-    if !answers::sound_parts(header, settings, image) {
-        return Answer::Refused(Refusal::Unsound);
+    answers::sound_answer(r)?;
+    if is_lockable(r) {
+        Ok(())
+    } else {
+        Err(Refusal::NotLockable)
     }
-    if is_lockable(header, settings, image) {
-        return Answer::Accepted;
-    }
-    Answer::Refused(Refusal::NotLockable)
 }
 
 // A header with other marks.
@@ -102,7 +92,7 @@ pub(crate) fn marked(answer: Answer, header: Header, marks: u8) -> Header
     ensures { result ≡ cond (accepted answer) (marked_as header marks) header }
 {
     match answer {
-        Answer::Accepted => with_marks(header, marks),
-        Answer::Refused(_) => header,
+        Ok(()) => with_marks(header, marks),
+        Err(_) => header,
     }
 }

@@ -3,7 +3,7 @@ ghost use Rattle.std.specs.Prelude.{◌≡◌, ◌+◌, ◌*◌, ◌<◌, ◌≤
 ghost use Rattle.map.specs.Lists.{all_from};
 ghost use Rattle.host.specs.Record.{scene_word, scene_count, scene_sized, scene_has_dot, scene_fits, scene_answer, put_scene};
 
-use crate::Header;
+use crate::RecordRef;
 use map::{Answer, Refusal};
 
 fn word(bytes: &[u8], at: usize) -> usize
@@ -14,13 +14,11 @@ fn word(bytes: &[u8], at: usize) -> usize
 }
 
 // Two bytes of a count, and three for each entry.
+#[tactic(auto, unfolding(crate::specs::Record::scene_sized))]
 fn sized(bytes: &[u8]) -> bool
     ensures { result ≡ scene_sized bytes.now }
 {
-    if bytes.len() < 2 {
-        return false;
-    }
-    bytes.len() == 2 + 3 * word(bytes, 0)
+    2 <= bytes.len() && bytes.len() == 2 + 3 * word(bytes, 0)
 }
 
 // Every one of n dot numbers names a dot of the member.
@@ -30,12 +28,10 @@ fn has_dots(member: usize, bytes: &[u8], n: usize) -> bool
 {
     let lines = map::lines(member);
     let columns = map::columns(member);
-    let mut i: usize = 0;
-    while i < n {
+    for i in 0..n {
         if !map::number_in(lines, columns, bytes[2 + i] as usize) {
             return false;
         }
-        i += 1;
     }
     true
 }
@@ -45,30 +41,28 @@ fn levels_fit(top: usize, bytes: &[u8], n: usize) -> bool
     requires { (n ≡ scene_count bytes.now) × (length bytes.now ≡ 2 + 3 * n) }
     ensures { result ≡ all_from (scene_fits top bytes.now) 0 n }
 {
-    let mut i: usize = 0;
-    while i < n {
+    for i in 0..n {
         if top < word(bytes, 2 + n + 2 * i) {
             return false;
         }
-        i += 1;
     }
     true
 }
 
-pub(crate) fn answer(header: Header, settings: &[u8], bytes: &[u8]) -> Answer
-    ensures { result ≡ scene_answer header settings.now bytes.now }
+pub(crate) fn answer(r: RecordRef<'_>, bytes: &[u8]) -> Answer
+    ensures { result ≡ scene_answer r.entry.header r.entry.settings.now bytes.now }
 {
     if !sized(bytes) {
-        return Answer::Refused(Refusal::SceneLength);
+        return Err(Refusal::SceneLength);
     }
     let n = word(bytes, 0);
-    if !has_dots(header.member as usize, bytes, n) {
-        return Answer::Refused(Refusal::NoDot);
+    if !has_dots(r.header.member as usize, bytes, n) {
+        return Err(Refusal::NoDot);
     }
-    if !levels_fit(dots::top_level(settings), bytes, n) {
-        return Answer::Refused(Refusal::Level);
+    if !levels_fit(dots::top_level(r.settings), bytes, n) {
+        return Err(Refusal::Level);
     }
-    Answer::Accepted
+    Ok(())
 }
 
 // The entries in order, each as a lamp of its own. No level changes the data mode.
@@ -77,11 +71,9 @@ fn put_all(settings: &mut [u8], bytes: &[u8], n: usize)
     ensures { settings.new ≡ put_scene bytes.now settings.old n }
 {
     let wide = dots::wide(settings);
-    let mut entry: usize = 0;
-    while entry < n {
+    for entry in 0..n {
         let level = word(bytes, 2 + n + 2 * entry);
         dots::put_level_as(settings, wide, bytes[2 + entry], level);
-        entry += 1;
     }
 }
 

@@ -23,19 +23,20 @@ fn new_record(member: usize, bus: usize, pins: usize) -> Record
         marks: FREE,
     };
     Record {
-        header: header,
+        header,
         settings: image,
-        image: image,
+        image,
     }
 }
 
+#[tactic(auto, unfolding(crate::specs::Record::open_host))]
 pub(crate) fn opened(answer: Answer, member: usize, bus: usize, pins: usize) -> Record
     requires { accepted answer ≡ true → (member < 5) × (bus < 2) × (pins < 4) }
     ensures { result ≡ open_host answer member bus pins }
 {
     match answer {
-        Answer::Accepted => new_record(member, bus, pins),
-        Answer::Refused(_) => new_record(0, 0, 0),
+        Ok(()) => new_record(member, bus, pins),
+        Err(_) => new_record(0, 0, 0),
     }
 }
 
@@ -52,16 +53,12 @@ fn put_byte(settings: &mut [u8], address: usize, value: u8)
 fn put_lamp(settings: &mut [u8], line: usize, sink: usize, level: usize)
     ensures { settings.new ≡ cond (ltb line 11 && ltb sink 18) (put_level settings.old (dot_number line sink) level) settings.old }
 {
-    if 11 <= line {
-        return;
+    if line < 11 && sink < 18 {
+        dots::put_level(settings, (18 * line + sink) as u8, level);
     }
-    if 18 <= sink {
-        return;
-    }
-    dots::put_level(settings, (18 * line + sink) as u8, level);
 }
 
-// What a setting puts into the settings where its answer, that of a record with these settings, is Accepted. It gives back the number of
+// What a setting puts into the settings where its answer, that of a record with these settings, is Ok. It gives back the number of
 // that answer, with the values that come with it: none of these settings has any.
 pub fn put_setting(
     answer: Answer,
@@ -75,7 +72,7 @@ pub fn put_setting(
     ensures numbers { (image : List ℕ) → answer ≡ setting_answer (record_of header settings.old image) setting lent.now →
         result ≡ numbers_of (setting_numbers (record_of header settings.old image) setting lent.now) }
 {
-    let Answer::Accepted = answer else {
+    let Ok(()) = answer else {
         return map::answer_numbers(answer);
     };
     let member = header.member as usize;
@@ -105,37 +102,11 @@ pub fn put_setting(
     }
 }
 
-// The same on the settings of a record by value.
-pub(crate) fn put_own(
-    answer: Answer,
-    header: Header,
-    settings: &mut [u8; 908],
-    setting: Setting,
-    lent: &[u8],
-) -> Numbers
-    ensures settings_after { (image : List ℕ) → answer ≡ setting_answer (record_of header settings.old image) setting lent.now →
-        settings.new ≡ cond (accepted answer) (put_setting settings.old setting lent.now) settings.old }
-    ensures numbers { (image : List ℕ) → answer ≡ setting_answer (record_of header settings.old image) setting lent.now →
-        result ≡ numbers_of (setting_numbers (record_of header settings.old image) setting lent.now) }
-{
-    put_setting(answer, header, settings, setting, lent)
-}
-
 // The reset values, into the image of a record whose Power lost or Reset was accepted.
 pub fn put_lost(answer: Answer, header: Header, image: &mut [u8])
     ensures { image.new ≡ cond (accepted answer && eqb (length image.old) 908) (reset_image header.member) image.old }
 {
-    let member = header.member as usize;
-    match answer {
-        Answer::Accepted => images::put_reset(member, image),
-        Answer::Refused(_) => {}
+    if answer.is_ok() {
+        images::put_reset(header.member as usize, image);
     }
-}
-
-// The same on the image of a record by value.
-pub(crate) fn lose_own(answer: Answer, header: Header, image: &mut [u8; 908])
-    requires { length image.old ≡ 908 }
-    ensures { image.new ≡ cond (accepted answer) (reset_image header.member) image.old }
-{
-    put_lost(answer, header, image);
 }

@@ -10,7 +10,7 @@ returns-in-Register c = rw c.in-Register.is c.register.ensures
 
 pub returns-in-Lamp : goal.returns-in-Lamp
 unfolding arguments_answer
-returns-in-Lamp c = rw c.in-Lamp.is (lamp_is _ _ _ _ _ _ _ c.top_level.ensures c.field.ensures)
+returns-in-Lamp c = rw c.in-Lamp.is (lamp_is _ _ _ _ _ _ _ c.top_level-top.ensures c.field.ensures)
 
 pub returns-in-Group : goal.returns-in-Group
 unfolding arguments_answer field_answer

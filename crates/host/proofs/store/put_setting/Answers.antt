@@ -9,24 +9,24 @@ returns-in_default c = let is = c.in_default.is in record { settings_after = λ 
 pub returns-in-Register : goal.returns-in-Register
 returns-in-Register c =
     let is = c.in-Register.is in
-    record { settings_after = λ image e. rw is (register_puts _ _ image _ _ _ _ _ c.in-Accepted.is c.put_byte.ensures (rw is at e)); numbers = λ image e. numbered _ _ image _ _ _ _ c.answer_numbers-in-Register.ensures e }
+    record { settings_after = λ image e. rw is (register_puts _ _ image _ _ _ _ _ c.in-Ok.is c.put_byte.ensures (rw is at e)); numbers = λ image e. numbered _ _ image _ _ _ _ c.answer_numbers-in-Register.ensures e }
 
 pub returns-in-Lamp : goal.returns-in-Lamp
 returns-in-Lamp c =
     let is = c.in-Lamp.is in
-    record { settings_after = λ image e. rw is (lamp_puts _ _ image _ _ _ _ _ _ c.in-Accepted.is c.put_lamp.ensures (rw is at e)); numbers = λ image e. numbered _ _ image _ _ _ _ c.answer_numbers-in-Lamp.ensures e }
+    record { settings_after = λ image e. rw is (lamp_puts _ _ image _ _ _ _ _ _ c.in-Ok.is c.put_lamp.ensures (rw is at e)); numbers = λ image e. numbered _ _ image _ _ _ _ c.answer_numbers-in-Lamp.ensures e }
 
 pub returns-in-Group : goal.returns-in-Group
 returns-in-Group c =
     let is = c.in-Group.is in
-    record { settings_after = λ image e. rw is (group_puts _ _ image _ _ _ _ _ _ c.in-Accepted.is c.put_field.ensures (rw is at e)); numbers = λ image e. numbered _ _ image _ _ _ _ c.answer_numbers-in-Group.ensures e }
+    record { settings_after = λ image e. rw is (group_puts _ _ image _ _ _ _ _ _ c.in-Ok.is c.put_field.ensures (rw is at e)); numbers = λ image e. numbered _ _ image _ _ _ _ c.answer_numbers-in-Group.ensures e }
 
 pub returns-in-Switch : goal.returns-in-Switch
 returns-in-Switch c =
     let is = c.in-Switch.is in
-    record { settings_after = λ image e. rw is (switch_puts _ _ image _ _ _ _ _ _ c.in-Accepted.is c.put_field-in-Switch.ensures (rw is at e)); numbers = λ image e. numbered _ _ image _ _ _ _ c.answer_numbers-in-Switch.ensures e }
+    record { settings_after = λ image e. rw is (switch_puts _ _ image _ _ _ _ _ _ c.in-Ok.is c.put_field-in-Switch.ensures (rw is at e)); numbers = λ image e. numbered _ _ image _ _ _ _ c.answer_numbers-in-Switch.ensures e }
 
 pub returns-in-Scene : goal.returns-in-Scene
 returns-in-Scene c =
     let is = c.in-Scene.is in
-    record { settings_after = λ image e. rw is (scene_puts _ _ image _ _ _ c.in-Accepted.is c.put.ensures (rw is at e)); numbers = λ image e. numbered _ _ image _ _ _ _ c.answer_numbers-in-Scene.ensures e }
+    record { settings_after = λ image e. rw is (scene_puts _ _ image _ _ _ c.in-Ok.is c.put.ensures (rw is at e)); numbers = λ image e. numbered _ _ image _ _ _ _ c.answer_numbers-in-Scene.ensures e }
