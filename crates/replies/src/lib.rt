@@ -2,13 +2,13 @@
 // buffer; bytes alone; or a word.
 #![tactic(auto)]
 
-ghost use Rattle.std.specs.Prelude.{◌≡◌, cond, [], ◌++◌};
+ghost use Rattle.std.specs.Prelude.{◌++◌};
 ghost use Rattle.map.specs.Refusals.{numbers_in};
 ghost use Rattle.replies.specs.Replies.{value_text, numbers_text, lent_text, differs_word, reply_text, reply_line, echo_line};
 ghost use Rattle.text.specs.Text.{Puts, address_text};
 
 use map::Numbers;
-use text::{put, put_address, put_bytes, put_decimal, put_text};
+use text::{put, put_address, put_bytes, put_decimal, put_each, put_text};
 
 // What the line of output says. BUFFER is all bytes of the buffer that was lent.
 #[derive(Clone, Copy)]
@@ -31,30 +31,25 @@ pub enum Reply {
     Locked,
 }
 
-// ` V`, where there is one
-fn put_value(text: &mut [u8], at: usize, given: bool, value: usize) -> usize
-    ensures { Puts text.old at (cond given (value_text value) []) text.new result }
+// ` V`
+fn put_value(text: &mut [u8], at: usize, value: usize) -> usize
+    ensures { Puts text.old at (value_text value) text.new result }
 {
-    if given {
-        let next = put(text, at, b' ');
-        put_decimal(text, next, value)
-    } else {
-        at
-    }
+    let next = put(text, at, b' ');
+    put_decimal(text, next, value)
 }
 
 // `N`, `N V`, `N V W` ..
 fn put_numbers(text: &mut [u8], at: usize, numbers: Numbers) -> usize
     ensures { Puts text.old at (numbers_text (numbers_in numbers)) text.new result }
 {
-    if numbers.count == 0 {
-        return at;
+    match &numbers.values[..numbers.count.min(numbers.values.len())] {
+        [] => at,
+        [number, values @ ..] => {
+            let next = put_decimal(text, at, *number);
+            put_each(text, next, values, put_value)
+        }
     }
-    let next = put_decimal(text, at, numbers.number);
-    let next = put_value(text, next, 1 < numbers.count, numbers.first);
-    let next = put_value(text, next, 2 < numbers.count, numbers.second);
-    let next = put_value(text, next, 3 < numbers.count, numbers.third);
-    put_value(text, next, 4 < numbers.count, numbers.fourth)
 }
 
 // ` BUFFER`
@@ -73,6 +68,7 @@ fn put_differs(text: &mut [u8], at: usize, address: usize) -> usize
     put_address(text, next, address)
 }
 
+#[tactic(auto, unfolding(crate::specs::Replies::reply_text))]
 fn put_reply(text: &mut [u8], at: usize, reply: Reply, bytes: &[u8]) -> usize
     ensures { Puts text.old at (reply_text reply bytes.now) text.new result }
 {

@@ -2,34 +2,15 @@
 -- Assumes nothing.
 use mathlib.Core.Path.{◌≡◌, refl, sym, ap, ◌∙◌}
 use mathlib.Core.List.{List, [], ◌∷◌, ◌++◌}
-use Prim.Native.Nat.{ℕ, ◌+◌, ◌-◌, ◌/◌, ◌%◌, ◌<◌, ◌≤◌}
+use Prim.Native.Nat.{ℕ, ◌+◌, ◌/◌, ◌%◌, ◌<◌, ◌≤◌}
 use native.Mathlib.Numerals.{add-one}
-use native.Mathlib.Omega.{arith}
-use borrow.Author.Tests.{lt-ltb, le-ltb, eq-eqb, ne_eqb}
-use lib.ListN.{length, get_or, set, drop, drop_of_length-le}
-use lib.Seq.{drop-cons, set_out}
-use Rattle.text.specs.Text.{placed, place_after, Puts, digit, byte_text, address_text, decimal_text, each_text, spaced_text, bytes_text}
-use Rattle.text.specs.TextLaws.{next_inside, next_behind, puts_then, puts_as, Putting, putting_more, putting_all, decimal_small, decimal_more}
-
--- ---- one byte
-
-pub one_inside : (old : List ℕ) (at byte : ℕ) → at < length old → Puts old at (byte ∷ []) (set old at byte) (at + 1)
-unfolding placed place_after
-one_inside old at byte h = record { buffer = refl; place = add-one at ∙ sym (next_inside (length old) at h) }
-
-pub one_behind : (old : List ℕ) (at byte : ℕ) → length old ≤ at → Puts old at (byte ∷ []) old at
-unfolding placed place_after
-one_behind old at byte h = record { buffer = sym (set_out old at byte h); place = sym (next_behind (length old) at h) }
+use borrow.Author.Tests.{eq-eqb, ne_eqb}
+use lib.ListN.{length, get_or, drop, drop_of_length-le}
+use lib.Seq.{drop-cons}
+use Rattle.text.specs.Text.{Puts, digit, byte_text, address_text, decimal_text, each_text, spaced_text, bytes_text}
+use Rattle.text.specs.TextLaws.{puts_then, puts_as, Putting, putting_more, putting_all, decimal_small, decimal_more}
 
 -- ---- digits
-
-pub digit_low : (v d : ℕ) → d ≡ v % 16 → d < 10 → 0x30 + d ≡ digit v
-unfolding digit
-digit_low v d e h = rw (← e, lt-ltb d 10 h) refl
-
-pub digit_high : (v d : ℕ) → d ≡ v % 16 → 10 ≤ d → 0x41 + (d - 10) ≡ digit v
-unfolding digit
-digit_high v d e h = rw (← e, le-ltb d 10 h) (omega arith)
 
 module _ (old : List ℕ) (at : ℕ) (mid : List ℕ) (next : ℕ) (new : List ℕ) (r : ℕ) where
   pub byte_put : (v d e : ℕ) → d ≡ digit (v / 16) → Puts old at (d ∷ []) mid next → e ≡ digit v → Puts mid next (e ∷ []) new r →
@@ -55,22 +36,24 @@ decimal_digit_put old at v d new r h hd p = puts_as old at (d ∷ []) (decimal_t
 
 -- ---- the loops over bytes
 
-each_step : (f : ℕ → List ℕ) (bytes : List ℕ) (i : ℕ) → i < length bytes → each_text f (drop i bytes) ≡ f (get_or bytes i 0) ++ each_text f (drop (i + 1) bytes)
+each_step : {A : Type 0} (f : A → List ℕ) (items : List A) (i : ℕ) (x : A) → i < length items → each_text f (drop i items) ≡ f (get_or items i x) ++ each_text f (drop (i + 1) items)
 unfolding each_text
-each_step f bytes i h = ap (each_text f) (drop-cons bytes i 0 h) ∙ ap (λ (k : ℕ). f (get_or bytes i 0) ++ each_text f (drop k bytes)) (sym (add-one i))
+each_step f items i x h = ap (each_text f) (drop-cons items i x h) ∙ ap (λ (k : ℕ). f (get_or items i x) ++ each_text f (drop k items)) (sym (add-one i))
 
--- i bytes are put, each as f has it, and the others are left
-abbrev pub Each : (ℕ → List ℕ) → List ℕ → ℕ → List ℕ → List ℕ → ℕ → ℕ → Type 0
-Each f old at bytes text next i = Putting old at (each_text f bytes) (each_text f (drop i bytes)) text next
+-- i of them are put, each as f has it, and the others are left
+abbrev pub Each : {A : Type 0} → (A → List ℕ) → List ℕ → ℕ → List A → List ℕ → ℕ → ℕ → Type 0
+Each f old at items text next i = Putting old at (each_text f items) (each_text f (drop i items)) text next
 
-pub each_more : (f : ℕ → List ℕ) (old : List ℕ) (at : ℕ) (bytes text : List ℕ) (next i : ℕ) (new : List ℕ) (r : ℕ) → i < length bytes →
-    Each f old at bytes text next i → Puts text next (f (get_or bytes i 0)) new r → Each f old at bytes new r (i + 1)
-each_more f old at bytes text next i new r h e p =
-    putting_more old at (each_text f bytes) text next (f (get_or bytes i 0)) (each_text f (drop (i + 1) bytes)) new r (rw (each_step f bytes i h) at e) p
+pub each_more : {A : Type 0} (f : A → List ℕ) (old : List ℕ) (at : ℕ) (items : List A) (text : List ℕ) (next i : ℕ) (x : A) (new : List ℕ) (r : ℕ) → i < length items →
+    x ≡ get_or items i x → Each f old at items text next i → Puts text next (f x) new r → Each f old at items new r (i + 1)
+each_more f old at items text next i x new r h is e p =
+    putting_more old at (each_text f items) text next (f x) (each_text f (drop (i + 1) items)) new r
+    (rw (each_step f items i x h, ← is) at e) p
 
-pub each_all : (f : ℕ → List ℕ) (old : List ℕ) (at : ℕ) (bytes text : List ℕ) (next i : ℕ) → length bytes ≤ i → Each f old at bytes text next i → Puts old at (each_text f bytes) text next
+pub each_all : {A : Type 0} (f : A → List ℕ) (old : List ℕ) (at : ℕ) (items : List A) (text : List ℕ) (next i : ℕ) → length items ≤ i → Each f old at items text next i →
+    Puts old at (each_text f items) text next
 unfolding each_text
-each_all f old at bytes text next i h e = putting_all old at (each_text f bytes) text next (rw (drop_of_length-le bytes h) at e)
+each_all f old at items text next i h e = putting_all old at (each_text f items) text next (rw (drop_of_length-le items h) at e)
 
 -- bytes as they are
 each_byte : (bytes : List ℕ) → each_text (λ v. v ∷ []) bytes ≡ bytes

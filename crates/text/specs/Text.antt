@@ -24,9 +24,9 @@ pub record Puts (old : List ℕ) (at : ℕ) (text new : List ℕ) (r : ℕ) : Ty
   pub buffer : new ≡ placed old at text
   pub place : r ≡ place_after (length old) at text
 
--- a function that puts one byte, with what a call of it may do (`post`), puts the text that `shape` has of the byte
-abbrev pub PutsOne : {Buffer : Type 0} → (Buffer → ℕ → ℕ → ℕ → Buffer → Type 0) → (Buffer → List ℕ) → (ℕ → List ℕ) → Type 0
-PutsOne {Buffer} post bytes shape = (old : Buffer) (at byte r : ℕ) (new : Buffer) → post old at byte r new → Puts (bytes old) at (shape byte) (bytes new) r
+-- a function that puts one thing, with what a call of it may do (`post`), puts the text that `shape` has of it
+abbrev pub PutsOne : {Buffer A : Type 0} → (Buffer → ℕ → A → ℕ → Buffer → Type 0) → (Buffer → List ℕ) → (A → List ℕ) → Type 0
+PutsOne {Buffer} {A} post bytes shape = (old : Buffer) (at : ℕ) (x : A) (r : ℕ) (new : Buffer) → post old at x r new → Puts (bytes old) at (shape x) (bytes new) r
 
 -- ---- Numbers
 
@@ -53,8 +53,8 @@ decimal_text v = decimal_up_to v v
 
 -- ---- Byte strings
 
--- the text of each byte, one behind the other
-unfoldable pub each_text : (ℕ → List ℕ) → List ℕ → List ℕ
+-- the text of each, one behind the other
+unfoldable pub each_text : {A : Type 0} → (A → List ℕ) → List A → List ℕ
 each_text f [] = []
 each_text f (v ∷ vs) = f v ++ each_text f vs
 

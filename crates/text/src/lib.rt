@@ -8,6 +8,7 @@ ghost use Rattle.std.specs.Prelude.{◌≡◌, ℕ, List, [], ◌∷◌};
 ghost use Rattle.text.specs.Text.{Puts, PutsOne, digit, byte_text, address_text, spaced_text, spaced_bytes_text, bytes_text, decimal_text, each_text};
 
 // One byte.
+#[tactic(auto, unfolding(crate::specs::Text::placed, crate::specs::Text::place_after, crate::specs::Text::next_place))]
 pub fn put(text: &mut [u8], at: usize, byte: u8) -> usize
     ensures { Puts text.old at (byte ∷ []) text.new result }
 {
@@ -19,6 +20,7 @@ pub fn put(text: &mut [u8], at: usize, byte: u8) -> usize
 }
 
 // The last hexadecimal digit of a number, with capitals.
+#[tactic(auto, unfolding(crate::specs::Text::digit))]
 fn digit_of(value: usize) -> u8
     ensures { result ≡ digit value }
 {
@@ -53,19 +55,19 @@ pub fn put_decimal(text: &mut [u8], at: usize, value: usize) -> usize
     put(text, next, digit_of(value % 10))
 }
 
-// The bytes, each as `put_one` puts it, one behind the other.
-fn put_each<F: Fn(&mut [u8], usize, u8) -> usize>(
+// Each of some things as `put_one` puts it, one behind the other.
+pub fn put_each<T: Copy, F: Fn(&mut [u8], usize, T) -> usize>(
     text: &mut [u8],
     at: usize,
-    bytes: &[u8],
+    items: &[T],
     put_one: F,
 ) -> usize
     requires { F.IsAlwaysCallable put_one }
-    ensures { (shape : ℕ → List ℕ) → PutsOne (F.post put_one) (λ t. t.now) shape → Puts text.old at (each_text shape bytes.now) text.new result }
+    ensures { (shape : T → List ℕ) → PutsOne (F.post put_one) (λ t. t.now) shape → Puts text.old at (each_text shape items.now) text.new result }
 {
     let mut next = at;
-    for byte in bytes {
-        next = put_one(text, next, *byte);
+    for item in items {
+        next = put_one(text, next, *item);
     }
     next
 }
