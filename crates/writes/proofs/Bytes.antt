@@ -12,7 +12,7 @@ use lib.ListN.{length, get_or, take, drop, set, length-take, length-drop, length
 use lib.Seq.{sets, length-sets, take-suc, get_or-drop, length-take-le, take_all, take-take}
 use Rattle.burst.specs.Burst.{size_bytes, put_size, head_first, head_second, transaction_of}
 use Rattle.plan.specs.Update.{data_of}
-use Rattle.writes.specs.Found.{SameTo, FirstDiffering, DifferTo}
+use Rattle.writes.specs.Found.{SameTo}
 use Rattle.writes.specs.WrittenLaws.{sets_append, sets_past}
 
 -- ---- same bytes
@@ -35,17 +35,10 @@ module _ (settings image : List ℕ) (from : ℕ) where
       at k l u (yes h) = s.same k l h
       at k l u (no n) = t.same k (omega arith) u
 
-  -- a block of i bytes so far
-
-  pub block_none : SameTo settings image from (from + 0)
-  block_none = subst (SameTo settings image from) (sym (add-zero from)) same_none
-
-  pub block_more : (i bits : ℕ) → (bits ≡ 0 → SameTo settings image from (from + i)) →
-      bit_or bits (bit_xor (get_or settings (from + i) 0) (get_or image (from + i) 0)) ≡ 0 → SameTo settings image from (from + (i + 1))
-  block_more i bits s e =
-      let g = gathered (get_or settings (from + i) 0) (get_or image (from + i) 0) e in
-      let z : from + i + 1 ≡ from + (i + 1) = omega arith in
-      subst (SameTo settings image from) z (same_more (from + i) (s g.0) g.1)
+  -- a block up to i so far
+  pub block_more : (i bits : ℕ) → (bits ≡ 0 → SameTo settings image from i) →
+      bit_or bits (bit_xor (get_or settings i 0) (get_or image i 0)) ≡ 0 → SameTo settings image from (i + 1)
+  block_more i bits s e = let g = gathered (get_or settings i 0) (get_or image i 0) e in same_more i (s g.0) g.1
     where
       -- gathered bits that are 0 are of bytes that are the same
       gathered : (x y : ℕ) → bit_or bits (bit_xor x y) ≡ 0 → (bits ≡ 0) × (x ≡ y)
@@ -53,35 +46,6 @@ module _ (settings image : List ℕ) (from : ℕ) where
           let o = or_add_and bits (bit_xor x y) in
           let z : bit_xor x y ≡ 0 = omega (arith, o, and_le_l bits (bit_xor x y)) in
           (omega (arith, o, and_le_r bits (bit_xor x y)), omega (arith, z, xor_add_and x y, and_le_l x y, and_le_r x y))
-
-  pub block_whole : (i size : ℕ) → i ≡ size → SameTo settings image from (from + i) → SameTo settings image from (from + size)
-  block_whole i size e s = subst (λ (k : ℕ). SameTo settings image from (from + k)) e s
-
-  pub found : (a : ℕ) → SameTo settings image from a → (get_or settings a 0 ≡ get_or image a 0 → ⊥) → FirstDiffering settings image from a
-  found a s n = record { to = s; differs = λ h. n }
-
-  pub none_found : (a : ℕ) → SameTo settings image from a → 908 ≤ a → FirstDiffering settings image from a
-  none_found a s h = record { to = s; differs = λ u. absurd (omega arith) }
-
-  -- differing bytes so far
-
-  pub record Differing (a : ℕ) : Type 0 where
-    pub least : from ≤ a
-    pub most : a ≤ 908
-    pub differ : (k : ℕ) → from ≤ k → k < a → get_or settings k 0 ≡ get_or image k 0 → ⊥
-
-  pub differing_none : from ≤ 908 → Differing from
-  differing_none h = record { least = omega arith; most = h; differ = λ k l u. absurd (omega arith) }
-
-  pub differing_more : (a : ℕ) → a < 908 → Differing a → (get_or settings a 0 ≡ get_or image a 0 → ⊥) → Differing (a + 1)
-  differing_more a h d n = record { least = omega (arith, d.least); most = omega arith; differ = λ k l u. at k l u (ℕ_discrete k a) }
-    where
-      at : (k : ℕ) → from ≤ k → k < a + 1 → Dec (k ≡ a) → get_or settings k 0 ≡ get_or image k 0 → ⊥
-      at k l u (yes q) e = n (subst (λ (x : ℕ). get_or settings x 0 ≡ get_or image x 0) q e)
-      at k l u (no q) e = d.differ k l (omega arith) e
-
-  pub differing_done : (a : ℕ) → Differing a → (a < 908 → get_or settings a 0 ≡ get_or image a 0) → DifferTo settings image from a
-  differing_done a d s = record { least = d.least; most = d.most; differ = d.differ; same = s }
 
 -- ---- copies
 

@@ -3,77 +3,56 @@
 use mathlib.Core.Path.{◌≡◌, refl, sym, ap, ◌∙◌}
 use mathlib.Core.List.{List, [], ◌++◌}
 use Prim.Native.Nat.{ℕ, ◌+◌, ◌-◌, ◌*◌, ◌≤◌, ◌<◌}
-use native.Mathlib.Decide.{dec_lt}
 use native.Mathlib.Omega.{arith}
 use lib.ListN.{length}
 use Rattle.plan.specs.Plan.{Mark, clean, Write, cost}
 use Rattle.plan.specs.WriteLaws.{cost_append}
-use Rattle.plan.specs.NextLaws.{one}
+use Rattle.plan.specs.NextLaws.{one, Quiet}
 use Rattle.writes.specs.Found.{Placed, NextWrite, Small, Counted}
 use Rattle.writes.specs.FoundLaws.{Going, going_start, going_more, going_done}
 
--- the next one lies behind
-pub placed_on : (from start end next last : ℕ) → Placed from start end → start < 908 → Placed end next last → start < next
-placed_on from start end next last p h q = go (dec_lt next 908)
-  where
-    go : Dec (next < 908) → start < next
-    go (yes u) = omega (arith, p.some h, q.behind u)
-    go (no u) = omega arith
-
--- where the images are whole: what is counted, and that the next write is the plan's
-pub record Planned (mark : ℕ → Mark) (writes bytes from start end : ℕ) : Type 0 where
+-- where the images are whole, what is counted is the plan's
+pub record Planned (mark : ℕ → Mark) (writes bytes from : ℕ) : Type 0 where
   pub done : List Write
   pub going : Going mark writes from done
   pub total : bytes ≡ cost done
-  pub next : NextWrite mark from start end
 
 module _ (Whole : Type 0) (mark : ℕ → Mark) where
-  pub record Counting (writes bytes start end : ℕ) : Type 0 where
-    pub from : ℕ
-    pub placed : Placed from start end
+  pub record Counting (writes bytes from : ℕ) : Type 0 where
     pub below : from ≤ 908
     pub few : 3 * writes ≤ bytes
     pub room : bytes ≤ 3 * from
-    pub planned : Whole → Planned mark writes bytes from start end
+    pub planned : Whole → Planned mark writes bytes from
 
-  pub counting_start : mark 0 ≡ clean → (start end : ℕ) → Placed 1 start end → (Whole → NextWrite mark 1 start end) → Counting 0 0 start end
-  counting_start e start end p n = record {
-    from = 1;
-    placed = p;
+  pub counting_start : mark 0 ≡ clean → Counting 0 0 1
+  counting_start e = record {
     below = omega arith;
     few = omega arith;
     room = omega arith;
-    planned = λ w. record { done = []; going = going_start mark e; total = refl; next = n w };
+    planned = λ w. record { done = []; going = going_start mark e; total = refl };
   }
 
-  module _ (writes bytes start end : ℕ) (c : Counting writes bytes start end) where
-    -- the places as plain bounds
-    pub counted_behind : start < 908 → c.from < end
-    counted_behind h = omega (arith, c.placed.behind h, c.placed.some h)
-
-    pub counting_more : (next last : ℕ) → start < 908 → Placed end next last → (Whole → NextWrite mark end next last) →
-        Counting (writes + 1) (bytes + (end - start + 2)) next last
-    counting_more next last h p n = record {
-      from = end;
-      placed = p;
-      below = c.placed.most;
-      few = omega (arith, c.few, c.placed.some h);
-      room = omega (arith, c.room, c.placed.behind h, c.placed.some h);
+  module _ (writes bytes from : ℕ) (c : Counting writes bytes from) where
+    pub counting_more : (start end : ℕ) → Placed from start end → (Whole → NextWrite mark from start end) →
+        Counting (writes + 1) (bytes + (end - start + 2)) end
+    counting_more start end p n = record {
+      below = p.most;
+      few = omega (arith, c.few, p.some);
+      room = omega (arith, c.room, p.behind, p.some);
       planned = λ w.
           let d = c.planned w in
           record {
             done = d.done ++ one start end;
-            going = going_more mark writes c.from start end d.done d.going c.placed d.next h;
+            going = going_more mark writes from d.done d.going start end p (n w);
             total = omega (arith, d.total, cost_append 2 d.done (one start end));
-            next = n w;
           };
     }
 
     pub counting_small : Small writes bytes
     counting_small = record { few = c.few; most = omega (arith, c.room, c.below) }
 
-    pub counting_done : 908 ≤ start → Whole → Counted mark writes bytes
-    counting_done h w =
+    pub counting_done : (Whole → Quiet mark from 908) → Whole → Counted mark writes bytes
+    counting_done q w =
         let d = c.planned w in
-        let p = going_done mark writes c.from start end d.done d.going c.placed d.next h in
+        let p = going_done mark writes from d.done d.going (q w) in
         record { count_is = d.going.count ∙ ap length (sym p); bytes_are = d.total ∙ ap cost (sym p) }

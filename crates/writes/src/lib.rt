@@ -5,13 +5,13 @@
 // a whole list into an image.
 //
 // Every function takes any bytes and any numbers. What lies behind an end is neither read nor stored. That a write is the plan's is
-// promised where the tables are the member's and the two images differ only at addresses that may be written, as in a sound record.
+// promised where the two images differ only at addresses that may be written, as in a sound record.
 #![tactic(auto)]
 
 mod scan;
 mod storing;
 mod writer;
 
-pub use scan::{Count, Matrix, Write, count_writes, matrix_of, may_write, next_write};
+pub use scan::{Count, Write, count_writes, may_write, next_write};
 pub use storing::store_list;
 pub use writer::{copy, put_header, put_length, put_transaction};

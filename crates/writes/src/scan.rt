@@ -2,43 +2,19 @@
 //
 // In a sound record a differing byte may be written, so the scan looks for differing bytes alone, and asks whether an address may be
 // written only of the one or two that a write would send again.
-ghost use Rattle.std.specs.Prelude.{◌≡◌, true, ℕ, ◌+◌, ◌<◌, ◌≤◌, length, get_or};
-ghost use Rattle.host.specs.Record.{record_of, may_write};
-ghost use Rattle.writes.specs.Marks.{marks_of, matrix_of, Tables, Whole};
-ghost use Rattle.writes.specs.Found.{differs_at, SameTo, FirstDiffering, DifferTo, Further, WriteEnd, Placed, NextWrite, Small, Counted};
+ghost use Rattle.std.specs.Prelude.{◌≡◌, true, false, ℕ, ◌+◌, ◌<◌, ◌≤◌, length, get_or, MatchOption, IfSome};
+ghost use Rattle.plan.specs.NextLaws.{Quiet, Closed, Extends};
+ghost use Rattle.host.specs.Record.{record_of, record_behind, may_write};
+ghost use Rattle.writes.specs.Marks.{marks_of, Whole};
+ghost use Rattle.writes.specs.Found.{differs_at, Agree, SameTo, FirstDiffering, DifferTo, NoneDiffers, Near, GoesTo, WriteEnd, Placed, NextWrite, Small, Counted};
 
-use host::Header;
+use host::{Header, RecordRef};
 
-// A header with the lines and columns of its member, read once a call.
-#[derive(Clone, Copy)]
-pub struct Matrix {
-    pub header: Header,
-    pub lines: usize,
-    pub columns: u32,
-}
-
-pub fn matrix_of(header: Header) -> Matrix
-    ensures { result ≡ matrix_of header }
+// Whether an address may be written: it is writable for the member, and no locked one.
+pub fn may_write(header: Header, address: usize) -> bool
+    ensures { result ≡ may_write header address }
 {
-    let member = header.member as usize;
-    Matrix {
-        header: header,
-        lines: map::lines(member),
-        columns: map::columns(member),
-    }
-}
-
-// Whether an address may be written: it is no locked one, and by the table of kinds it is writable.
-pub fn may_write(kinds: &[u8], matrix: Matrix, address: usize) -> bool
-    ensures { Tables kinds.now matrix → result ≡ may_write matrix.header address }
-{
-    if host::lock_keeps(matrix.header, address) {
-        return false;
-    }
-    let kind = map::kind_in(kinds, address);
-    let member = matrix.header.member as usize;
-    let mask = map::reserved_as(kind, member, matrix.lines, matrix.columns, address);
-    mask < 255
+    map::writable(header.member as usize, address) && !host::lock_keeps(header, address)
 }
 
 // So many bytes are compared at once where nothing differs, and so many in the block that has the difference.
@@ -48,126 +24,96 @@ const PART: usize = 4;
 
 // Whether the `size` bytes from `from` on are the same in both. The bits are gathered with no early return, so that many bytes are taken
 // at once.
-fn same_block<'a>(settings: &'a [u8], image: &'a [u8], from: usize, size: usize) -> bool
-    requires { (length settings.now ≡ 908) × (length image.now ≡ 908) × (from + size ≤ 908) }
+fn same_block(settings: &[u8; 908], image: &[u8; 908], from: usize, size: usize) -> bool
+    requires { from + size ≤ 908 }
     ensures { result ≡ true → SameTo settings.now image.now from (from + size) }
 {
-    let mut bits: u8 = 0;
-    let mut i: usize = 0;
-    while i < size {
-        bits |= settings[from + i] ^ image[from + i];
-        i += 1;
+    let mut bits = 0;
+    for i in from..from + size {
+        bits |= settings[i] ^ image[i];
     }
     bits == 0
 }
 
 // The address behind the blocks of `size` same bytes from `from` on.
-fn past_same<'a>(settings: &'a [u8], image: &'a [u8], from: usize, size: usize) -> usize
-    requires { (length settings.now ≡ 908) × (length image.now ≡ 908) × (0 < size) × (size ≤ 908) }
+fn past_same(settings: &[u8; 908], image: &[u8; 908], from: usize, size: usize) -> usize
+    requires { (0 < size) × (size ≤ 908) }
     ensures { SameTo settings.now image.now from result }
 {
-    let last = 908 - size;
     let mut a = from;
-    while a <= last {
-        if !same_block(settings, image, a, size) {
-            return a;
-        }
+    while a <= 908 - size && same_block(settings, image, a, size) {
         a += size;
     }
     a
 }
 
-// The first address from `from` on at which the two differ; 908 or more where there is none.
-fn first_differing<'a>(settings: &'a [u8], image: &'a [u8], from: usize) -> usize
-    requires { (length settings.now ≡ 908) × (length image.now ≡ 908) }
-    ensures { FirstDiffering settings.now image.now from result }
+// The first address from `from` on at which the two differ.
+fn first_differing(settings: &[u8; 908], image: &[u8; 908], from: usize) -> Option<usize>
+    ensures { MatchOption result (Agree settings.now image.now from 908) (λ a. FirstDiffering settings.now image.now from a) }
 {
     let block = past_same(settings, image, from, BLOCK);
-    let mut a = past_same(settings, image, block, PART);
-    while a < 908 {
-        if settings[a] != image[a] {
-            return a;
-        }
-        a += 1;
-    }
-    a
+    let part = past_same(settings, image, block, PART);
+    (part..908).find(|a| settings[*a] != image[*a])
 }
 
-fn differs<'a>(settings: &'a [u8], image: &'a [u8], a: usize) -> bool
-    requires { (length settings.now ≡ 908) × (length image.now ≡ 908) }
+fn differs(settings: &[u8; 908], image: &[u8; 908], a: usize) -> bool
     ensures { result ≡ differs_at settings.now image.now a }
 {
-    if 908 <= a {
-        return false;
-    }
-    settings[a] != image[a]
+    a < 908 && settings[a] != image[a]
 }
 
 // The address behind the differing bytes from `from` on.
-fn past_differing<'a>(settings: &'a [u8], image: &'a [u8], from: usize) -> usize
-    requires { (length settings.now ≡ 908) × (length image.now ≡ 908) × (from ≤ 908) }
+fn past_differing(settings: &[u8; 908], image: &[u8; 908], from: usize) -> usize
+    requires { from ≤ 908 }
     ensures { DifferTo settings.now image.now from result }
 {
-    let mut a = from;
-    while a < 908 {
-        if settings[a] == image[a] {
-            return a;
-        }
-        a += 1;
-    }
-    a
+    (from..908).find(|a| settings[*a] == image[*a]).unwrap_or(908)
 }
 
-// How far the write goes on that has come to `end`, where the two are the same: behind the next differing bytes if they join, else to
-// `end` itself.
-fn further<'a>(
-    kinds: &[u8],
-    matrix: Matrix,
-    settings: &'a [u8],
-    image: &'a [u8],
-    end: usize,
-) -> usize
-    requires { (length settings.now ≡ 908) × (length image.now ≡ 908) × (0 < end) × (end < 908) × (get_or settings.now end 0 ≡ get_or image.now end 0) }
-    ensures { (end ≤ result) × (result ≤ 908) × (result < 908 → get_or settings.now result 0 ≡ get_or image.now result 0)
-        × (Whole kinds.now matrix settings.now image.now →
-        Further (marks_of (record_of matrix.header settings.now image.now)) end result) }
+// The next differing address behind `end`, if at most two addresses from `end` on lie before it.
+fn near(settings: &[u8; 908], image: &[u8; 908], end: usize) -> Option<usize>
+    requires { end ≤ 908 }
+    ensures { MatchOption result (NoneDiffers settings.now image.now (end + 1) (end + 3)) (λ next. Near settings.now image.now end next) }
 {
-    if differs(settings, image, end + 1) {
-        if may_write(kinds, matrix, end) {
-            return past_differing(settings, image, end + 2);
-        }
-        return end;
+    (end + 1..end + 3).find(|a| differs(settings, image, *a))
+}
+
+// The first hole from `from` up to `to`: an address that may not be written.
+fn hole(header: Header, from: usize, to: usize) -> Option<usize>
+    ensures { MatchOption result ((a : ℕ) → from ≤ a → a < to → may_write header a ≡ true)
+        (λ a. (from ≤ a) × (a < to) × (may_write header a ≡ false) × ((k : ℕ) → from ≤ k → k < a → may_write header k ≡ true)) }
+{
+    (from..to).find(|a| !may_write(header, *a))
+}
+
+// Where the write goes on to that has come to `end`, where the two are the same: behind the next differing bytes, if they join.
+fn further(
+    header: Header,
+    settings: &[u8; 908],
+    image: &[u8; 908],
+    end: usize,
+) -> Option<usize>
+    requires { (0 < end) × (end ≤ 908) × (end < 908 → get_or settings.now end 0 ≡ get_or image.now end 0) }
+    ensures placed { IfSome result (λ next. GoesTo settings.now image.now end next) }
+    ensures further { Whole (record_of header settings.now image.now) →
+        MatchOption result (Closed (marks_of (record_of header settings.now image.now)) end)
+        (λ next. Extends (marks_of (record_of header settings.now image.now)) end next) }
+{
+    let next = near(settings, image, end)?;
+    match hole(header, end, next) {
+        Some(_) => None,
+        None => Some(past_differing(settings, image, next + 1)),
     }
-    if !differs(settings, image, end + 2) {
-        return end;
-    }
-    if !may_write(kinds, matrix, end) {
-        return end;
-    }
-    if !may_write(kinds, matrix, end + 1) {
-        return end;
-    }
-    past_differing(settings, image, end + 3)
 }
 
 // Where the write ends that has come to `from`.
-fn write_end<'a>(
-    kinds: &[u8],
-    matrix: Matrix,
-    settings: &'a [u8],
-    image: &'a [u8],
-    from: usize,
-) -> usize
-    requires { (length settings.now ≡ 908) × (length image.now ≡ 908) × (0 < from) × (from ≤ 908) }
-    ensures { (from ≤ result) × (result ≤ 908) × (Whole kinds.now matrix settings.now image.now →
-        WriteEnd (marks_of (record_of matrix.header settings.now image.now)) from result) }
+fn write_end(header: Header, settings: &[u8; 908], image: &[u8; 908], from: usize) -> usize
+    requires { (0 < from) × (from ≤ 908) }
+    ensures { (from ≤ result) × (result ≤ 908) × (Whole (record_of header settings.now image.now) →
+        WriteEnd (marks_of (record_of header settings.now image.now)) from result) }
 {
     let mut end = past_differing(settings, image, from);
-    while end < 908 {
-        let next = further(kinds, matrix, settings, image, end);
-        if next == end {
-            return end;
-        }
+    while let Some(next) = further(header, settings, image, end) {
         end = next;
     }
     end
@@ -180,52 +126,18 @@ pub struct Write {
     pub end: usize,
 }
 
-// The next write from `from` on, which is 1 at first and then the end of the write before; 908 and 908 where there is none.
-pub fn next_write<'a>(
-    kinds: &[u8],
-    matrix: Matrix,
-    settings: &'a [u8],
-    image: &'a [u8],
-    from: usize,
-) -> Write
-    ensures placed { Placed from result.start result.end }
-    ensures next_write { Whole kinds.now matrix settings.now image.now →
-        NextWrite (marks_of (record_of matrix.header settings.now image.now)) from result.start result.end }
+// The next write from `from` on, which is 1 at first and then the end of the write before. 000h is written apart from the others: the
+// plan begins at 001h.
+pub fn next_write(r: RecordRef<'_>, from: usize) -> Option<Write>
+    ensures placed { IfSome result (λ w. Placed from w.start w.end) }
+    ensures next_write { Whole (record_behind r.entry) →
+        MatchOption result (Quiet (marks_of (record_behind r.entry)) from 908)
+        (λ w. NextWrite (marks_of (record_behind r.entry)) from w.start w.end) }
 {
-    if settings.len() != 908 {
-        return no_write();
-    }
-    if image.len() != 908 {
-        return no_write();
-    }
-    let start = first_differing(settings, image, past_enable(from));
-    if 908 <= start {
-        return no_write();
-    }
-    let end = write_end(kinds, matrix, settings, image, start + 1);
-    Write {
-        start: start,
-        end: end,
-    }
-}
-
-fn no_write() -> Write
-    ensures { (result.start ≡ 908) × (result.end ≡ 908) }
-{
-    Write {
-        start: 908,
-        end: 908,
-    }
-}
-
-// 000h is written apart from the others: the plan begins at 001h.
-fn past_enable(from: usize) -> usize
-    ensures { (0 < result) × (from ≤ result) × ((a : ℕ) → from ≤ a → 0 < a → result ≤ a) }
-{
-    if from == 0 {
-        return 1;
-    }
-    from
+    let settings: &[u8; 908] = r.settings.try_into().ok()?;
+    let image: &[u8; 908] = r.image.try_into().ok()?;
+    let start = first_differing(settings, image, from.max(1))?;
+    Some(Write { start, end: write_end(r.header, settings, image, start + 1) })
 }
 
 // So many writes, and so many bus bytes together.
@@ -236,22 +148,16 @@ pub struct Count {
 }
 
 // All writes of the plan.
-pub fn count_writes<'a>(kinds: &[u8], matrix: Matrix, settings: &'a [u8], image: &'a [u8]) -> Count
+pub fn count_writes(r: RecordRef<'_>) -> Count
     ensures small { Small result.writes result.bytes }
-    ensures counted { Whole kinds.now matrix settings.now image.now →
-        Counted (marks_of (record_of matrix.header settings.now image.now)) result.writes result.bytes }
+    ensures counted { Whole (record_behind r.entry) → Counted (marks_of (record_behind r.entry)) result.writes result.bytes }
 {
-    let mut writes: usize = 0;
-    let mut bytes: usize = 0;
-    let mut write = next_write(kinds, matrix, settings, image, 1);
-    while write.start < 908 {
-        let end = write.end;
-        writes += 1;
-        bytes += end - write.start + 2;
-        write = next_write(kinds, matrix, settings, image, end);
+    let mut count = Count { writes: 0, bytes: 0 };
+    let mut from = 1;
+    while let Some(write) = next_write(r, from) {
+        count.writes += 1;
+        count.bytes += write.end - write.start + 2;
+        from = write.end;
     }
-    Count {
-        writes: writes,
-        bytes: bytes,
-    }
+    count
 }

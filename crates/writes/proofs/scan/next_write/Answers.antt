@@ -1,17 +1,21 @@
 -- `writes::scan::next_write` meets its contract.
 -- Assumes nothing.
 use native.Mathlib.Omega.{arith}
-use Rattle.writes.proofs.Marks.{no_place, next_none, next_found}
+use Rattle.std.proofs.Common.{rules}
+use mathlib.Core.Path.{◌≡◌}
+use Rattle.host.specs.Record.{record_of}
+use Rattle.writes.specs.Marks.{Whole}
+use Rattle.writes.proofs.Marks.{next_none, next_found}
 use Rattle.writes.proofs.scan.next_write.Goals as goal
 
-pub returns-then-settings-ne908 : goal.returns-then-settings-ne908
-returns-then-settings-ne908 c = record { placed = no_place _ _ _ c.no_write.ensures; next_write = λ w. absurd (omega (arith, w.settings_size)) }
+pub returns-in_err-start-clause-next_write : goal.returns-in_err-start-clause-next_write
+returns-in_err-start-clause-next_write c w =
+    let es : c.in_ok-settings.settings.now ≡ c.args.r.settings.now = search rules in
+    let ei : c.in_ok-image.image.now ≡ c.args.r.image.now = search rules in
+    rw c.from_residual-in_err-start.ensures (next_none _ _ _ w _ _ (λ a l p. omega (arith, c.max.ensures)) (rw (es, ei) at c.in_err-start.ensures))
 
-pub returns-then-image-ne908 : goal.returns-then-image-ne908
-returns-then-image-ne908 c = record { placed = no_place _ _ _ c.no_write-then-image-ne908.ensures; next_write = λ w. absurd (omega (arith, w.image_size)) }
-
-pub returns-then-start-ge908 : goal.returns-then-start-ge908
-returns-then-start-ge908 c = record { placed = no_place _ _ _ c.no_write-then-start-ge908.ensures; next_write = λ w. next_none _ _ _ _ w _ _ _ c.past_enable.ensures c.first_differing-start.ensures _ _ c.if-start-ge908.true c.no_write-then-start-ge908.ensures }
-
-pub returns : goal.returns
-returns c = record { placed = record { ordered = omega (arith, c.write_end-end.ensures.0); most = c.write_end-end.ensures.1; behind = λ h. omega (arith, c.past_enable.ensures.1, c.first_differing-start.ensures.to.least); some = λ h. omega (arith, c.write_end-end.ensures.0) }; next_write = λ w. next_found _ _ _ _ w _ _ _ c.past_enable.ensures c.first_differing-start.ensures _ (omega arith) (c.write_end-end.ensures.2 w) }
+pub returns-clause-next_write : goal.returns-clause-next_write
+returns-clause-next_write c w =
+    let es : c.in_ok-settings.settings.now ≡ c.args.r.settings.now = search rules in
+    let ei : c.in_ok-image.image.now ≡ c.args.r.image.now = search rules in
+    next_found _ _ _ w _ _ (λ a l p. omega (arith, c.max.ensures)) _ _ (omega (arith, c.max.ensures)) (rw (es, ei) at c.in_ok-start.ensures) ((rw (es, ei) at c.write_end.ensures.2) w)

@@ -4,6 +4,7 @@ use Prim.Native.Nat.{◌-◌}
 use Rattle.writes.specs.Found.{SameTo}
 use Rattle.writes.proofs.scan.past_same.Given as goal
 
+-- all up to here are the same
 abbrev pub invariant-loop-a : goal.invariant-loop-a
 invariant-loop-a l = SameTo l.settings l.image l.from l.a
 

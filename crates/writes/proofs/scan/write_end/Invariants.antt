@@ -8,10 +8,11 @@ use Rattle.host.specs.Record.{record_of}
 use Rattle.writes.specs.Marks.{marks_of, Whole}
 use Rattle.writes.proofs.scan.write_end.Given as goal
 
-abbrev pub invariant-loop-end : goal.invariant-loop-end
-invariant-loop-end l =
+-- the write has come to `end`, where the images are the same or the table ends
+abbrev pub invariant-loop-next : goal.invariant-loop-next
+invariant-loop-next l =
     (l.from ≤ l.end) × (l.end ≤ 908) × (l.end < 908 → get_or l.settings l.end 0 ≡ get_or l.image l.end 0) ×
-    (Whole l.kinds l.matrix l.settings l.image → Extends (marks_of (record_of l.matrix.header l.settings l.image)) l.from l.end)
+    (Whole (record_of l.header l.settings l.image) → Extends (marks_of (record_of l.header l.settings l.image)) l.from l.end)
 
-abbrev pub decreases-loop-end : goal.decreases-loop-end
-decreases-loop-end l = 908 - l.end
+abbrev pub decreases-loop-next : goal.decreases-loop-next
+decreases-loop-next l = 908 - l.end
