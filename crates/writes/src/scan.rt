@@ -67,7 +67,9 @@ fn past_differing(settings: &[u8; 908], image: &[u8; 908], from: usize) -> usize
     requires { from ≤ 908 }
     ensures { DifferTo settings.now image.now from result }
 {
-    (from..908).find(|a| settings[*a] == image[*a]).unwrap_or(908)
+    (from..908)
+        .find(|a| settings[*a] == image[*a])
+        .unwrap_or(908)
 }
 
 // The next differing address behind `end`, if at most two addresses from `end` on lie before it.
@@ -87,12 +89,7 @@ fn hole(header: Header, from: usize, to: usize) -> Option<usize>
 }
 
 // Where the write goes on to that has come to `end`, where the two are the same: behind the next differing bytes, if they join.
-fn further(
-    header: Header,
-    settings: &[u8; 908],
-    image: &[u8; 908],
-    end: usize,
-) -> Option<usize>
+fn further(header: Header, settings: &[u8; 908], image: &[u8; 908], end: usize) -> Option<usize>
     requires { (0 < end) × (end ≤ 908) × (end < 908 → get_or settings.now end 0 ≡ get_or image.now end 0) }
     ensures placed { IfSome result (λ next. GoesTo settings.now image.now end next) }
     ensures further { Whole (record_of header settings.now image.now) →
@@ -137,7 +134,10 @@ pub fn next_write(r: RecordRef<'_>, from: usize) -> Option<Write>
     let settings: &[u8; 908] = r.settings.try_into().ok()?;
     let image: &[u8; 908] = r.image.try_into().ok()?;
     let start = first_differing(settings, image, from.max(1))?;
-    Some(Write { start, end: write_end(r.header, settings, image, start + 1) })
+    Some(Write {
+        start,
+        end: write_end(r.header, settings, image, start + 1),
+    })
 }
 
 // So many writes, and so many bus bytes together.
@@ -152,7 +152,10 @@ pub fn count_writes(r: RecordRef<'_>) -> Count
     ensures small { Small result.writes result.bytes }
     ensures counted { Whole (record_behind r.entry) → Counted (marks_of (record_behind r.entry)) result.writes result.bytes }
 {
-    let mut count = Count { writes: 0, bytes: 0 };
+    let mut count = Count {
+        writes: 0,
+        bytes: 0,
+    };
     let mut from = 1;
     while let Some(write) = next_write(r, from) {
         count.writes += 1;
