@@ -15,9 +15,7 @@ use Rattle.host.specs.declared.Record.{Record}
 use Rattle.host.specs.Record.{record_of, sound_of}
 use Rattle.host.proofs.SoundLaws.{sound_is}
 use Rattle.writes.specs.Stored.{AllWithin}
-use Rattle.update.specs.declared.ListAnswer.{ListAnswer}
-use Rattle.update.specs.declared.ListAnswer.TheVariants.{Listed}
-use Rattle.update.specs.Update.{is_listed, writes_of, updating, update_answer, update_stored, update_of, update_buffer, send_of}
+use Rattle.update.specs.Update.{ListAnswer, listed, is_listed, writes_of, updating, update_answer, update_stored, update_of, update_buffer, send_of}
 use Rattle.update.specs.Pieces.{UpdateSent}
 use Rattle.update.specs.SendLaws.{answered, list_is, host_is, host_kept}
 use Rattle.update.specs.BoundLaws.{update_sendable, update_named, update_within}
@@ -33,12 +31,12 @@ module _ (answer : ListAnswer) (header : Header) (settings image lent buffer : L
 
   -- a list was written
 
-  module _ (n t : ℕ) (e : answer ≡ Listed n t) where
-    listed : update_answer r (length lent) ≡ Listed n t
-    listed = sym u.answer_is ∙ e
+  module _ (n t : ℕ) (e : answer ≡ listed n t) where
+    told : update_answer r (length lent) ≡ listed n t
+    told = sym u.answer_is ∙ e
 
     sound : sound_of r ≡ true
-    sound = (answered r (updating r) refl (length lent) n t listed).sound
+    sound = (answered r (updating r) refl (length lent) n t told).sound
 
     abbrev list : List ℕ
     list = encode header.bus header.pins (writes_of r)
@@ -47,7 +45,7 @@ module _ (answer : ListAnswer) (header : Header) (settings image lent buffer : L
     rest = drop (length list) lent
 
     in_front : buffer ≡ list ++ rest
-    in_front = u.buffer_is ∙ list_is r (updating r) lent n t listed
+    in_front = u.buffer_is ∙ list_is r (updating r) lent n t told
 
     good : sizes_good list ≡ true
     good = encode_sizes header.bus header.pins (writes_of r) (update_sendable r sound)
@@ -68,12 +66,12 @@ module _ (answer : ListAnswer) (header : Header) (settings image lent buffer : L
 
     module _ (count : ℕ) (new : List ℕ) (f : LeadsWithList buffer → AllWithin (length image) found → (count ≡ data_bytes found) × (new ≡ store_all found image)) where
       pub count_listed : count ≡ update_stored r (length lent)
-      count_listed = (f begins within).0 ∙ ap data_bytes found_are ∙ sym (stored_data r (length lent) n t listed)
+      count_listed = (f begins within).0 ∙ ap data_bytes found_are ∙ sym (stored_data r (length lent) n t told)
 
       pub image_listed : new ≡ (update_of r (length lent)).host.image
       image_listed =
           (f begins within).1 ∙ ap (λ (bs : List Burst). store_all bs image) found_are
-          ∙ ap (λ (x : Record). x.image) (sym (host_is r (updating r) (length lent) n t listed))
+          ∙ ap (λ (x : Record). x.image) (sym (host_is r (updating r) (length lent) n t told))
 
   -- none was
 

@@ -4,6 +4,8 @@ use mathlib.Core.Path.{◌≡◌, refl, sym, ap, ◌∙◌}
 use mathlib.Core.List.{List, [], ◌++◌}
 use Prim.Native.Nat.{ℕ, ◌+◌, ◌-◌, ◌*◌, ◌≤◌, ◌<◌}
 use native.Mathlib.Omega.{arith}
+use Rattle.std.specs.Prelude.{Option, None, Some}
+use Rattle.std.specs.Option.{MatchOption, IsSome}
 use lib.ListN.{length}
 use lib.Seq.{sets}
 use Rattle.burst.specs.Burst.{sizes_bytes, put_size, transaction_of}
@@ -39,7 +41,7 @@ module _ (r : Record) where
 
   module _ (whole : length r.settings ≡ 908) (old buffer : List ℕ) (first n i k from at start end : ℕ)
       (g : Written old (4 + 2 * first) (4 + 2 * n + 3 * first) k from at buffer) (index : i ≡ first + k) (more : i < n)
-      (u : start < 908) (placed : Placed from start end) (next : NextWrite (marks_of r) from start end) where
+      (placed : Placed from start end) (next : NextWrite (marks_of r) from start end) where
     pub written_more : (mid new : List ℕ) → mid ≡ put_size buffer (4 + 2 * i) (end - start + 2) →
         new ≡ sets mid at (transaction_of r.header.bus r.header.pins (data_of r.settings (record { start = start; len = end - start }))) →
         Written old (4 + 2 * first) (4 + 2 * n + 3 * first) (k + 1) end (at + (end - start + 2)) new
@@ -47,12 +49,12 @@ module _ (r : Record) where
         let total = cost_append 2 g.done (one start end) in
         record {
           done = g.done ++ one start end;
-          going = going_more (marks_of r) k from start end g.done g.going placed next u;
+          going = going_more (marks_of r) k from g.done g.going start end placed next;
           reached = omega (arith, g.reached, total);
-          small = omega (arith, g.small, total, placed.behind u, placed.some u);
+          small = omega (arith, g.small, total, placed.behind, placed.some);
           put =
               put_more r.header r.settings old (4 + 2 * first) (4 + 2 * n + 3 * first) g.done buffer g.put start end (4 + 2 * i) at
-              placed.ordered (omega (arith, placed.most, whole)) (omega (arith, index, g.going.count)) (omega arith) g.reached mid new em en;
+              (omega (arith, placed.some)) (omega (arith, placed.most, whole)) (omega (arith, index, g.going.count)) (omega arith) g.reached mid new em en;
         }
 
   pub written_done : (old buffer : List ℕ) (p q i from at count : ℕ) → i ≡ count → Written old p q i from at buffer →
@@ -61,3 +63,8 @@ module _ (r : Record) where
       let sent : g.done ≡ planned r count = sym (going_taken (marks_of r) i from g.done g.going) ∙ ap (planned r) e in
       g.put.written
       ∙ ap (λ (ws : List Write). sets (sets old p (sizes_bytes (transaction_lengths ws))) q (transaction_bytes r.header r.settings ws)) sent
+
+-- what is not none is some
+pub is_there : {A : Type 0} (o : Option A) (N : Type 0) (S : A → Type 0) → MatchOption o N S → (N → ⊥) → IsSome o
+is_there None N S m n = absurd (n m)
+is_there (Some x) N S m n = refl

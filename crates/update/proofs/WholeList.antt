@@ -8,7 +8,8 @@ use native.Mathlib.Omega.{arith}
 use borrow.Author.Tests.{eq-eqb, ne_eqb}
 use lib.ListN.{length, get_or, length-append, length-map}
 use lib.Seq.{sets, take-length, length-take-le}
-use Rattle.map.specs.declared.refusals.Refusal.TheVariants.{Unsound}
+use Rattle.std.specs.Prelude.{Err}
+use Rattle.map.specs.declared.refusals.Refusal.{Refusal}
 use Rattle.burst.specs.Burst.{size_bytes, sizes_bytes, bus_bytes, put_size, transaction_of, encode}
 use Rattle.burst.specs.BurstLaws.{encode_length}
 use Rattle.plan.specs.Plan.{Write, cost, plan}
@@ -16,17 +17,15 @@ use Rattle.plan.specs.WriteLaws.{cost_append}
 use Rattle.plan.specs.Update.{value_at, on_by, data_of}
 use Rattle.host.specs.declared.Header.{Header}
 use Rattle.host.specs.declared.Record.{Record}
-use Rattle.host.specs.Record.{record_of, sound_of}
+use Rattle.host.specs.Record.{record_of, sound_of, sound_answer}
 use Rattle.host.proofs.SoundLaws.{Sound, sound_is}
-use Rattle.writes.specs.declared.scan.Matrix.{Matrix}
-use Rattle.writes.specs.Marks.{chip_view, marks_of, matrix_of}
+use Rattle.writes.specs.Marks.{chip_view, marks_of}
 use Rattle.writes.specs.Found.{Small, Counted}
 use Rattle.writes.specs.Written.{transaction_lengths, transaction_bytes, writes_bytes}
 use Rattle.writes.specs.WrittenLaws.{Inside, sets_behind, sets_comm, sets_front, lengths_append, lengths_size, bytes_append, bytes_one, bytes_size, writes_cost, list_written}
-use Rattle.update.specs.declared.ListAnswer.{ListAnswer}
-use Rattle.update.specs.declared.ListAnswer.TheVariants.{Listed, Short, Refused}
-use Rattle.update.specs.Update.{list_size, writes_of, updating, update_answer, update_buffer}
+use Rattle.update.specs.Update.{ListAnswer, listed, short, refused, list_size, writes_of, updating, update_answer, update_buffer}
 use Rattle.update.specs.SendLaws.{Leaves, send_unsound, send_short, send_listed}
+use Rattle.update.proofs.Fixed.{unsound_is}
 use Rattle.update.specs.Pieces.{enable_count, enable_writes, plan_count, planned, pending, ListSizes}
 use Rattle.update.specs.PieceLaws.{enable_length, enable_cost_lem, enable_inside, pending_inside, writes_are}
 
@@ -181,8 +180,8 @@ module _ (r : Record) (buffer : List ℕ) where
   outcome : (answer : ListAnswer) (host : Record) (new : List ℕ) → Leaves r (updating r) buffer answer host new → Outcome answer new
   outcome answer host new l = (l.answer_is, l.buffer_is)
 
-  pub parts_unsound : sound_of r ≡ false → Outcome (Refused Unsound) buffer
-  parts_unsound e = outcome _ _ _ (send_unsound r (updating r) buffer e)
+  pub parts_unsound : (e : Refusal) → Err e ≡ sound_answer r → Outcome (refused e) buffer
+  parts_unsound e s = let u = unsound_is r e s in rw u.1 (outcome _ _ _ (send_unsound r (updating r) buffer u.0))
 
   module _ (first n t : ℕ) (e : sound_of r ≡ true) (z : ListSizes r first n t) where
     abbrev s : Sends r first n t
@@ -191,28 +190,15 @@ module _ (r : Record) (buffer : List ℕ) where
     size_is : list_size (writes_of r) ≡ 4 + 2 * n + t
     size_is = omega (arith, s.n_is, s.t_is)
 
-    pub parts_short : length buffer < 4 + 2 * n + t → Outcome (Short (4 + 2 * n + t)) buffer
+    pub parts_short : length buffer < 4 + 2 * n + t → Outcome (short (4 + 2 * n + t)) buffer
     parts_short h = rw (← size_is) (outcome _ _ _ (send_short r (updating r) buffer refl e (omega (arith, size_is))))
 
     pub parts_listed : (new : List ℕ) → 4 + 2 * n + t ≤ length buffer → new ≡ sets buffer 0 (writes_bytes r.header r.settings (pending r first)) →
-        Outcome (Listed n t) new
+        Outcome (listed n t) new
     parts_listed new h en =
         let l = send_listed r (updating r) buffer e (omega (arith, size_is)) in
         let list : List ℕ = encode r.header.bus r.header.pins (writes_of r) in (
-          ap₂ Listed (sym s.n_is) (sym s.t_is) ∙ l.answer_is,
+          ap₂ listed (sym s.n_is) (sym s.t_is) ∙ l.answer_is,
           en ∙ ap (sets buffer 0) (sym s.list_is)
               ∙ sets_front list buffer (omega (arith, encode_length r.header.bus r.header.pins (writes_of r), size_is)) ∙ l.buffer_is,
         )
-
--- the same by the header that a table of the call has
-module _ (h : Header) (settings image : List ℕ) (matrix : Matrix) (em : matrix ≡ matrix_of h) where
-  same : matrix.header ≡ h
-  same = ap (λ (x : Matrix). x.header) em
-
-  pub sized : (first n t : ℕ) → ListSizes (record_of matrix.header settings image) first n t → ListSizes (record_of h settings image) first n t
-  sized first n t z = subst (λ (x : Header). ListSizes (record_of x settings image) first n t) same z
-
-  pub listed : (first : ℕ) (buffer new : List ℕ) →
-      new ≡ sets buffer 0 (writes_bytes matrix.header settings (pending (record_of matrix.header settings image) first)) →
-      new ≡ sets buffer 0 (writes_bytes h settings (pending (record_of h settings image) first))
-  listed first buffer new e = e ∙ ap (λ (x : Header). sets buffer 0 (writes_bytes x settings (pending (record_of x settings image) first))) same

@@ -2,7 +2,9 @@
 -- sends some writes, and sending is defined once, in three parts: the answer, the record that the call returns with it, and the buffer as
 -- it leaves it.
 -- Assumes nothing.
-use Rattle.std.specs.Prelude.{Bool, true, false, cond, List, [], ◌∷◌, ◌++◌, ℕ, ◌+◌, ◌*◌, leb, length, get_or, drop}
+use Rattle.std.specs.Prelude.{Bool, true, false, cond, List, [], ◌∷◌, ◌++◌, ℕ, ◌+◌, ◌*◌, Result, Ok, Err, leb, length, get_or, drop}
+use Rattle.std.specs.Result.{is_ok}
+use Rattle.map.specs.declared.refusals.Refusal.{Refusal}
 use Rattle.map.specs.declared.refusals.Refusal.TheVariants.{BufferShort, Unsound}
 use Rattle.map.specs.Refusals.{refusal_number}
 use Rattle.burst.specs.Burst.{Burst, bus_bytes, data_bytes, encode}
@@ -10,24 +12,38 @@ use Rattle.plan.specs.Update.{update_for, store_all}
 use Rattle.host.specs.declared.Record.{Record}
 use Rattle.host.specs.Record.{record_of, sound_of, may_write, chip_reset}
 use Rattle.writes.specs.Marks.{chip_view}
-use Rattle.update.specs.declared.ListAnswer.{ListAnswer}
-use Rattle.update.specs.declared.ListAnswer.TheVariants.{Listed, Short, Refused}
+use Rattle.update.specs.declared.Listed.{Listed}
+use Rattle.update.specs.declared.NotListed.{NotListed}
+use Rattle.update.specs.declared.NotListed.TheVariants.{Short, Refused}
 use Rattle.update.specs.declared.Sent.{Sent}
 use Rattle.update.specs.declared.Updated.{Updated}
 
 -- ---- Answers
 
+-- what a call answers that writes a list: n transactions of t bytes together; or that the buffer is too short, and the length needed; or
+-- another refusal
+abbrev pub ListAnswer : Type 0
+ListAnswer = Result Listed NotListed
+
+abbrev pub listed : ℕ → ℕ → ListAnswer
+listed n t = Ok (record { n = n; t = t })
+
+abbrev pub short : ℕ → ListAnswer
+short needed = Err (Short needed)
+
+abbrev pub refused : Refusal → ListAnswer
+refused r = Err (Refused r)
+
 -- the number and the values of an answer: 0 with n and t; 10 with the length needed; another refusal "carries only its number"
 abbrev pub list_numbers : ListAnswer → List ℕ
-list_numbers (Listed n t) = 0 ∷ n ∷ t ∷ []
-list_numbers (Short needed) = refusal_number BufferShort ∷ needed ∷ []
-list_numbers (Refused r) = refusal_number r ∷ []
+list_numbers (Ok l) = 0 ∷ l.n ∷ l.t ∷ []
+list_numbers (Err (Short needed)) = refusal_number BufferShort ∷ needed ∷ []
+list_numbers (Err (Refused r)) = refusal_number r ∷ []
 
 -- Q-4: "Update also answers how many image bytes it stored": behind n and t
 abbrev pub update_numbers : ListAnswer → ℕ → List ℕ
-update_numbers (Listed n t) stored = 0 ∷ n ∷ t ∷ stored ∷ []
-update_numbers (Short needed) stored = list_numbers (Short needed)
-update_numbers (Refused r) stored = list_numbers (Refused r)
+update_numbers (Ok l) stored = 0 ∷ l.n ∷ l.t ∷ stored ∷ []
+update_numbers (Err e) stored = list_numbers (Err e)
 
 -- the number alone
 abbrev pub list_number : ListAnswer → ℕ
@@ -35,9 +51,7 @@ list_number answer = get_or (list_numbers answer) 0 0
 
 -- "Otherwise exactly those bytes are written": whether a list was
 abbrev pub is_listed : ListAnswer → Bool
-is_listed (Listed n t) = true
-is_listed (Short needed) = false
-is_listed (Refused r) = false
+is_listed answer = is_ok answer
 
 -- ---- Sending
 
@@ -60,8 +74,8 @@ pub record Sending : Type 0 where
 unfoldable pub send_answer : Record → Sending → ℕ → ListAnswer
 send_answer r x size =
     cond (sound_of r)
-    (cond (leb (list_size x.writes) size) (Listed (length x.writes) (bus_bytes x.writes)) x.short)
-    (Refused Unsound)
+    (cond (leb (list_size x.writes) size) (listed (length x.writes) (bus_bytes x.writes)) x.short)
+    (refused Unsound)
 
 -- the answer, and the host's record: "a refusal returns it unchanged"
 unfoldable pub send_of : Record → Sending → ℕ → Sent
@@ -85,7 +99,7 @@ writes_of r = update_for (may_write r.header) 908 r.settings (chip_view r)
 abbrev pub updating : Record → Sending
 updating r = record {
   writes = writes_of r;
-  short = Short (list_size (writes_of r));
+  short = short (list_size (writes_of r));
   host = record_of r.header r.settings (store_all (writes_of r) r.image);
 }
 
@@ -111,7 +125,7 @@ command_write a bytes = record { start = a; bytes = bytes } ∷ []
 
 -- a buffer that is too short is refused with 10, which "carries only its number"
 abbrev pub command : ℕ → List ℕ → Record → Sending
-command a bytes host = record { writes = command_write a bytes; short = Refused BufferShort; host = host }
+command a bytes host = record { writes = command_write a bytes; short = refused BufferShort; host = host }
 
 -- Reset: "10: under 9 bytes. One write of FFh to 0A9h". "After either, the chip image has reset values and the settings are kept.", and the
 -- lock is released

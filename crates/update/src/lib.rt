@@ -5,34 +5,49 @@
 // chip image: those bytes, and no copy of all 908. Reset and Clear are fixed commands. Each call writes its list to the front of the
 // caller's buffer, answers the number of transactions and their bytes, and leaves the rest of the buffer as it was.
 //
-// Each call by value is a few lines over functions on the header and the lent images (`update_parts`, `store_sent` and so on), which a
+// Each call by value is a few lines over functions on a record with lent images (`update_parts`, `store_sent` and so on), which a
 // caller uses that keeps its record elsewhere. They take images of any length: another than 908 is unsound.
 #![tactic(auto)]
 
 mod commands;
 mod lists;
 
-ghost use Rattle.std.specs.Prelude.{◌≡◌, cond, List, ℕ, length};
+ghost use Rattle.std.specs.Prelude.{◌≡◌, length};
 ghost use Rattle.map.specs.Refusals.{numbers_of};
-ghost use Rattle.map.specs.Images.{reset_image};
-ghost use Rattle.host.specs.Record.{record_of, free, marked_as};
-ghost use Rattle.update.specs.Update.{is_listed, update_stored, update_of, update_buffer, chip_reset_of, reset_buffer, clear_of, clear_buffer, list_numbers, update_numbers};
-ghost use Rattle.update.specs.Pieces.{UpdateSent};
+ghost use Rattle.update.specs.Update.{update_of, update_buffer, chip_reset_of, reset_buffer, clear_of, clear_buffer, list_numbers, update_numbers};
 
 pub use commands::{clear_parts, reset_parts};
-use host::{Header, Record};
+use host::Record;
 pub use lists::{store_sent, update_parts};
 use map::{Numbers, Refusal};
 
-// What a call answers that writes a list.
+// n transactions of t bytes together.
 #[derive(Clone, Copy)]
-pub enum ListAnswer {
-    // n transactions of t bytes together
-    Listed { n: usize, t: usize },
+pub struct Listed {
+    pub n: usize,
+    pub t: usize,
+}
+
+// Why no list was written.
+#[derive(Clone, Copy)]
+pub enum NotListed {
     // the buffer is shorter than the list, which takes so many bytes
     Short { needed: usize },
     Refused(Refusal),
 }
+
+impl From<Refusal> for NotListed {
+    ghost use Rattle.update.specs.declared.NotListed.TheVariants.{Refused};
+
+    ghost from_gives = { λ refusal e. e ≡ Refused refusal };
+
+    fn from(refusal: Refusal) -> Self {
+        NotListed::Refused(refusal)
+    }
+}
+
+// What a call answers that writes a list.
+pub type ListAnswer = Result<Listed, NotListed>;
 
 // The answer of Reset or Clear, and the host's record that the call gives back.
 #[derive(Clone, Copy)]
@@ -55,12 +70,14 @@ pub fn list_numbers(answer: ListAnswer) -> Numbers
     ensures { result ≡ numbers_of (list_numbers answer) }
 {
     match answer {
-        ListAnswer::Listed { n, t } => map::with_values(0, n, t),
-        ListAnswer::Short { needed } => map::with_value(
+        Ok(Listed { n, t }) => map::with_values(0, n, t),
+        Err(NotListed::Short { needed }) => map::with_value(
             map::refusal_number(Refusal::BufferShort) as usize,
             needed,
         ),
-        ListAnswer::Refused(refusal) => map::number_alone(map::refusal_number(refusal) as usize),
+        Err(NotListed::Refused(refusal)) => {
+            map::number_alone(map::refusal_number(refusal) as usize)
+        }
     }
 }
 
@@ -69,15 +86,11 @@ pub fn update_numbers(answer: ListAnswer, stored: usize) -> Numbers
     ensures { result ≡ numbers_of (update_numbers answer stored) }
 {
     let mut numbers = list_numbers(answer);
-    match answer {
-        ListAnswer::Listed { n: _, t: _ } => {
-            numbers.count = 4;
-            numbers.third = stored;
-            numbers
-        }
-        ListAnswer::Short { needed: _ } => numbers,
-        ListAnswer::Refused(_) => numbers,
+    if answer.is_ok() {
+        numbers.count = 4;
+        numbers.values[3] = stored;
     }
+    numbers
 }
 
 // Bring the chip to the settings: the shortest list that does so. Afterwards the chip image is what the chip holds once it has heard
@@ -86,24 +99,13 @@ pub fn update(mut r: Record, buffer: &mut [u8]) -> Updated
     ensures value { result ≡ update_of r (length buffer.old) }
     ensures buffer_after { buffer.new ≡ update_buffer r buffer.old }
 {
-    let header = r.header;
-    let answer = update_parts(header, &r.settings, &r.image, buffer);
-    let stored = store_own(answer, header, &mut r.image, buffer);
+    let answer = update_parts(r.lent(), buffer);
+    let stored = store_sent(answer, r.header, &mut r.image, buffer);
     Updated {
-        answer: answer,
-        stored: stored,
+        answer,
+        stored,
         host: r,
     }
-}
-
-// What was sent, into the image of a record by value.
-fn store_own(answer: ListAnswer, header: Header, image: &mut [u8; 908], buffer: &[u8]) -> usize
-    ensures stored { (settings lent : List ℕ) → UpdateSent answer header settings image.old lent buffer.now →
-        result ≡ update_stored (record_of header settings image.old) (length lent) }
-    ensures image_after { (settings lent : List ℕ) → UpdateSent answer header settings image.old lent buffer.now →
-        image.new ≡ (update_of (record_of header settings image.old) (length lent)).host.image }
-{
-    store_sent(answer, header, image, buffer)
 }
 
 // Put every register of the chip to its reset value. The settings are kept, so that the next update sends them again, and a lock is
@@ -112,37 +114,12 @@ pub fn reset(mut r: Record, buffer: &mut [u8]) -> Sent
     ensures value { result ≡ chip_reset_of r (length buffer.old) }
     ensures buffer_after { buffer.new ≡ reset_buffer r buffer.old }
 {
-    let header = r.header;
-    let answer = reset_parts(header, &r.settings, &r.image, buffer);
-    put_own(answer, header, &mut r.image);
-    r.header = released(answer, header);
-    Sent {
-        answer: answer,
-        host: r,
+    let answer = reset_parts(r.lent(), buffer);
+    if answer.is_ok() {
+        images::put_reset(r.header.member as usize, &mut r.image);
+        r.header = host::with_marks(r.header, host::FREE);
     }
-}
-
-// The reset values, into the image of a record by value whose Reset has this answer.
-fn put_own(answer: ListAnswer, header: Header, image: &mut [u8; 908])
-    requires { length image.old ≡ 908 }
-    ensures { image.new ≡ cond (is_listed answer) (reset_image header.member) image.old }
-{
-    match answer {
-        ListAnswer::Listed { n: _, t: _ } => images::put_reset(header.member as usize, image),
-        ListAnswer::Short { needed: _ } => {}
-        ListAnswer::Refused(_) => {}
-    }
-}
-
-// The header of a record whose Reset has this answer.
-fn released(answer: ListAnswer, header: Header) -> Header
-    ensures { result ≡ cond (is_listed answer) (marked_as header free) header }
-{
-    match answer {
-        ListAnswer::Listed { n: _, t: _ } => host::with_marks(header, host::FREE),
-        ListAnswer::Short { needed: _ } => header,
-        ListAnswer::Refused(_) => header,
-    }
+    Sent { answer, host: r }
 }
 
 // Clear the open bits and the short bits of the chip.
@@ -150,9 +127,8 @@ pub fn clear(r: Record, buffer: &mut [u8]) -> Sent
     ensures value { result ≡ clear_of r (length buffer.old) }
     ensures buffer_after { buffer.new ≡ clear_buffer r buffer.old }
 {
-    let answer = clear_parts(r.header, &r.settings, &r.image, buffer);
     Sent {
-        answer: answer,
+        answer: clear_parts(r.lent(), buffer),
         host: r,
     }
 }

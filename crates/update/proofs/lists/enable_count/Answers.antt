@@ -3,8 +3,8 @@
 use Rattle.update.specs.PieceLaws.{enable_same, enable_other}
 use Rattle.update.proofs.lists.enable_count.Goals as goal
 
-pub returns-then-settings-image : goal.returns-then-settings-image
-returns-then-settings-image c = enable_same c.args.settings.now c.args.image.now c.if-settings-image.true
+pub returns-then-r : goal.returns-then-r
+returns-then-r c = enable_same c.args.r.settings.now c.args.r.image.now c.if-r.true
 
-pub returns : goal.returns
-returns c = enable_other c.args.settings.now c.args.image.now c.if-settings-image.false
+pub returns-else-r : goal.returns-else-r
+returns-else-r c = enable_other c.args.r.settings.now c.args.r.image.now c.if-r.false
