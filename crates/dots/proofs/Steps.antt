@@ -1,4 +1,4 @@
--- The steps of a level and of a field, over plain variables.
+-- The steps of a field, over plain variables.
 -- Assumes nothing.
 use mathlib.Core.Path.{◌≡◌, refl, sym, ap, ◌∙◌}
 use mathlib.Core.Bool.{Bool, true, false, cond}
@@ -13,39 +13,10 @@ use Rattle.std.proofs.Common.{Option, Some, None}
 use Rattle.map.specs.declared.dots.Field.{Field}
 use Rattle.map.specs.declared.dots.Field.TheVariants.{Group, Switch, Open, Short, Current, Pwm8, Pwm16}
 use Rattle.map.specs.declared.dots.Place.{Place}
-use Rattle.map.specs.Map.{is_dot, address_of, shift_of, width_of, place_as, place_of, data_mode, is_wide}
-use Rattle.dots.specs.Dots.{wide_of, top_level, level_of, put_level, put_bits, field_of, put_field}
+use Rattle.map.specs.Map.{is_dot, address_of, shift_of, width_of, place_as, place_of}
+use Rattle.dots.specs.Dots.{put_bits, field_of, put_field}
 use Rattle.dots.specs.Bits.{bits_in}
 use Rattle.dots.specs.BitLaws.{three_parts, put_sum, put_byte, field_byte}
-use Rattle.dots.specs.DotLaws.{level_wide, level_narrow}
-
--- ---- levels
-
--- byte is what stands in 001h, and wide what its test answers
-pub mode_is : (image : List ℕ) (byte : ℕ) (wide : Bool) → byte ≡ get_or image 0x001 0 → wide ≡ is_wide (data_mode byte) → wide ≡ wide_of image
-unfolding wide_of
-mode_is image byte wide eb ew = ew ∙ ap (λ (x : ℕ). is_wide (data_mode x)) eb
-
-module _ (image : List ℕ) (wide : Bool) (ew : wide ≡ wide_of image) where
-  pub top_is : (b : Bool) → wide ≡ b → cond b 65535 255 ≡ top_level image
-  unfolding top_level
-  top_is b q = rw (sym ew ∙ q) refl
-
-  pub narrow_read : (d r : ℕ) → wide ≡ false → r ≡ get_or image (0x200 + d) 0 → r < 256 → (r ≡ level_of image d) × (r < 65536)
-  unfolding level_of
-  narrow_read d r q er hr = (rw (sym ew ∙ q) er, omega arith)
-
-  pub wide_read : (d low high : ℕ) → wide ≡ true → low ≡ get_or image (0x200 + 2 * d) 0 → high ≡ get_or image (0x200 + 2 * d + 1) 0 → low < 256 → high < 256 →
-      (low + 256 * high ≡ level_of image d) × (low + 256 * high < 65536)
-  unfolding level_of
-  wide_read d low high q el eh hl hh = (rw (sym ew ∙ q, el, eh) refl, omega arith)
-
-  pub narrow_put : (d v : ℕ) (new : List ℕ) → wide ≡ false → new ≡ set image (0x200 + d) (v % 256) → new ≡ put_level image d v
-  narrow_put d v new q e = e ∙ sym (level_narrow image d v (sym ew ∙ q))
-
-  pub wide_put : (d v : ℕ) (new : List ℕ) → wide ≡ true →
-      new ≡ set (set image (0x200 + 2 * d) (v % 256)) (0x200 + 2 * d + 1) (v / 256 % 256) → new ≡ put_level image d v
-  wide_put d v new q e = e ∙ sym (level_wide image d v (sym ew ∙ q))
 
 -- ---- places
 

@@ -29,6 +29,7 @@ fn put_byte(image: &mut [u8], address: usize, value: u8)
 }
 
 // Whether a byte of 001h has a data mode of 16-bit levels.
+#[tactic(auto, unfolding(map::specs::Map::is_wide, map::specs::Map::data_mode))]
 pub fn is_wide(byte: u8) -> bool
     ensures { result ≡ is_wide (data_mode byte) }
 {
@@ -36,6 +37,7 @@ pub fn is_wide(byte: u8) -> bool
 }
 
 // Whether an image has levels of 16 bits.
+#[tactic(auto, unfolding(crate::specs::Dots::wide_of))]
 pub fn wide(image: &[u8]) -> bool
     ensures { result ≡ wide_of image.now }
 {
@@ -43,6 +45,7 @@ pub fn wide(image: &[u8]) -> bool
 }
 
 // The largest level that the data mode of an image holds.
+#[tactic(auto, unfolding(crate::specs::Dots::top_level))]
 pub fn top_level(image: &[u8]) -> usize
     ensures { result ≡ top_level image.now }
 {
@@ -57,6 +60,7 @@ pub fn level(image: &[u8], number: u8) -> usize
 }
 
 // The same for a caller that reads many levels and has asked for the data mode once.
+#[tactic(auto, unfolding(crate::specs::Dots::level_of))]
 pub fn level_as(image: &[u8], wide: bool, number: u8) -> usize
     ensures { wide ≡ wide_of image.now → (result ≡ level_of image.now number) × (result < 65536) }
 {
@@ -77,6 +81,7 @@ pub fn put_level(image: &mut [u8], number: u8, level: usize)
 }
 
 // The same for a caller that puts many levels and has asked for the data mode once.
+#[tactic(auto, unfolding(crate::specs::Dots::put_level))]
 pub fn put_level_as(image: &mut [u8], wide: bool, number: u8, level: usize)
     ensures { wide ≡ wide_of image.old → image.new ≡ put_level image.old number level }
 {
