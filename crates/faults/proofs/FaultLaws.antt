@@ -1,6 +1,6 @@
 -- What Faults answers and stores, and what the readings rest on.
 -- Assumes nothing.
-use Rattle.std.specs.Prelude.{◌≡◌, ◌⊎◌, Bool, ◌&&◌, ◌||◌, List, [], ◌∷◌, ℕ, zero, suc, ◌+◌, ◌*◌, ◌/◌, ◌%◌, ◌<◌, ◌≤◌, ltb, eqb}
+use Rattle.std.specs.Prelude.{◌≡◌, ◌⊎◌, Ok, Err, Bool, ◌&&◌, ◌||◌, List, [], ◌∷◌, ℕ, zero, suc, ◌+◌, ◌*◌, ◌/◌, ◌%◌, ◌<◌, ◌≤◌, ltb, eqb}
 use Rattle.std.proofs.Math.Path.{refl}
 use Rattle.std.proofs.Common.{sym, ap, ◌∙◌, not-suc-le-zero, zero-add}
 use Rattle.std.proofs.Math.Logic.{inl, inr}
@@ -13,7 +13,7 @@ use borrow.Author.Tests.{lt-ltb, le-ltb, eq-eqb, ne_eqb, ltb-false, eqb-true}
 use Rattle.std.proofs.Math.ListN.{length, get_or}
 use Rattle.map.specs.declared.dots.Field.{Field}
 use Rattle.map.specs.declared.dots.Field.TheVariants.{Open, Short}
-use Rattle.map.specs.declared.refusals.Answer as checks
+use Rattle.map.specs.Refusals as refusals
 use Rattle.map.specs.declared.refusals.Refusal.TheVariants.{BufferShort}
 use Rattle.map.specs.Refusals.{accepted}
 use Rattle.map.specs.Map.{lines_of, columns_of, is_dot, dot_number, address_of, shift_of}
@@ -60,7 +60,7 @@ faults_taken r given room e =
     let sized = passed (eqb given 67) _ _ sound.1 in
     record { sound = sound.0; bytes = eqb-true given 67 sized.0; result = ltb-false room 198 (roomy (ltb room 198) sized.1) }
   where
-    roomy : (b : Bool) → accepted (cond b (checks.TheVariants.Refused BufferShort) checks.TheVariants.Accepted) ≡ true → b ≡ false
+    roomy : (b : Bool) → accepted (cond {A = refusals.Answer} b (Err BufferShort) (Ok tt)) ≡ true → b ≡ false
     roomy true q = absurd (false≢true q)
     roomy false q = refl
 
@@ -113,10 +113,10 @@ module _ (r : Record) (bytes result : List ℕ) where
   unfolding faults_answer faults_result answered answer_numbers
   refuses = go (faults_checked r (length bytes) (length result)) refl
     where
-      go : (a : checks.Answer) → faults_checked r (length bytes) (length result) ≡ a →
+      go : (a : refusals.Answer) → faults_checked r (length bytes) (length result) ≡ a →
           (get_or (answer_numbers (answered a (opens_agree r.header.member bytes) (shorts_agree r.header.member bytes))) 0 0 ≡ 0 → ⊥) → Refuses
-      go checks.TheVariants.Accepted e z = absurd (z refl)
-      go (checks.TheVariants.Refused x) e z = record { result_stays = rw e refl; no_opens = λ old. rw e refl; no_shorts = λ old. rw e refl }
+      go (Ok u) e z = absurd (z refl)
+      go (Err x) e z = record { result_stays = rw e refl; no_opens = λ old. rw e refl; no_shorts = λ old. rw e refl }
 
 -- ---- the reading of a dot
 

@@ -14,7 +14,8 @@ use lib.ListN.{length, get_or, set, length-set}
 use lib.Seq.{ext_get_or}
 use Rattle.map.specs.declared.dots.Field.{Field}
 use Rattle.map.specs.declared.dots.Field.TheVariants.{Open, Short}
-use Rattle.map.specs.declared.refusals.Answer as checks
+use Rattle.map.specs.Refusals as refusals
+use Rattle.std.proofs.Common.{Ok, Err}
 use Rattle.map.specs.declared.refusals.Refusal.{Refusal}
 use Rattle.map.specs.Refusals.{refusal_number, accepted}
 use Rattle.map.specs.Map.{lines_of, columns_of, dot_in, number_in, address_of, shift_of}
@@ -22,12 +23,11 @@ use Rattle.map.specs.Lists.{filled}
 use Rattle.map.specs.ListLaws.{filled_none, filled_more, filled_length, filled_in, filled_out}
 use Rattle.dots.specs.Dots.{wide_of, level_of}
 use Rattle.host.specs.declared.Record.{Record}
-use Rattle.faults.specs.Faults.{fault_byte, bit_set, is_set, tested_from, is_dim, has_dot, lamp_reading, reading, readings, some_below, is_faulty, some_faulty, opens_agree, shorts_agree, faults_checked, answer_numbers, answered, faults_answer, faults_result}
+use Rattle.faults.specs.Faults.{fault_byte, bit_set, is_set, tested_from, is_dim, has_dot, lamp_reading, reading, readings, some_below, is_faulty, some_faulty, opens_agree, shorts_agree, faults_checked, Answer, agreed, answered, faults_answer, faults_result}
 use Rattle.faults.proofs.FaultLaws.{Taken, faults_taken}
 use Rattle.faults.specs.OldReadings.{by_bits, bits_reading}
 use Rattle.faults.specs.Passes.{ReadTo, unless_dim, tested_at}
-use Rattle.faults.specs.declared.Answer.{Answer}
-use Rattle.faults.specs.declared.Answer.TheVariants.{Read, Refused}
+use Rattle.faults.specs.declared.Agreement.{Agreement}
 
 -- ---- the bits of a dot
 
@@ -179,15 +179,7 @@ read_whole m bytes old result opens shorts line h so =
     let e : 18 * line ≡ 198 = omega (arith, so.within) in
     (rw e at so.stored, (rw e at so.opens_some, rw e at so.shorts_some))
 
--- ---- unless_dim, mark
-
-pub tested_lamp : (dim : Bool) (reading : ℕ) → reading ≡ 0 → cond dim 5 0 ≡ unless_dim dim reading
-unfolding unless_dim
-tested_lamp dim reading e = rw e refl
-
-pub tested_other : (dim : Bool) (reading : ℕ) → (reading ≡ 0 → ⊥) → reading ≡ unless_dim dim reading
-unfolding unless_dim
-tested_other dim reading n = rw (ne_eqb reading 0 n) refl
+-- ---- mark
 
 -- the first d readings are marked
 pub record MarkedTo (image old result : List ℕ) (d : ℕ) : Type 0 where
@@ -216,31 +208,6 @@ marked_more image old result d level figure r h room el es er so = record {
 
 pub marked_whole : (image old result : List ℕ) (d : ℕ) → 198 ≤ d → MarkedTo image old result d → result ≡ filled (tested_at image old) 0 198 old
 marked_whole image old result d h so = let e : d ≡ 198 = omega (arith, so.within) in rw e at so.stored
-
--- ---- agrees
-
-pub agrees_set : (bit faulty : ℕ) → bit ≡ 1 → beq (eqb bit 1) (ltb 0 faulty) ≡ ltb 0 faulty
-agrees_set bit faulty e = rw (eq-eqb bit 1 e) (go (ltb 0 faulty))
-  where
-    go : (b : Bool) → beq true b ≡ b
-    go true = refl
-    go false = refl
-
-pub agrees_clear : (bit faulty : ℕ) → (bit ≡ 1 → ⊥) → beq (eqb bit 1) (ltb 0 faulty) ≡ eqb faulty 0
-agrees_clear bit faulty n = rw (ne_eqb bit 1 n) (go (ℕ_discrete faulty 0))
-  where
-    go : Dec (faulty ≡ 0) → beq false (ltb 0 faulty) ≡ eqb faulty 0
-    go (yes e) = rw e refl
-    go (no u) = rw (lt-ltb 0 faulty (omega arith), ne_eqb faulty 0 u) refl
-
-pub state_bits : (state opens shorts : ℕ) (p q : Bool) → p ≡ beq (eqb (state / 2 % 2) 1) (ltb 0 opens) →
-    q ≡ beq (eqb (state % 2) 1) (ltb 0 shorts) →
-    Read p q ≡ Read (beq (bit_set state 1) (ltb 0 opens)) (beq (bit_set state 0) (ltb 0 shorts))
-unfolding bit_set
-state_bits state opens shorts p q ep eq = rw (ep, eq, whole state) refl
-  where
-    whole : (x : ℕ) → x % 2 ≡ x / 1 % 2
-    whole x = omega arith
 
 -- ---- both passes
 
@@ -280,30 +247,24 @@ module _ (r : Record) (bytes result : List ℕ) (h : 198 ≤ length result) wher
       at k (no n) =
           filled_out _ 0 198 read_by_bits k (λ l u. n u) ∙ filled_out _ 0 198 result k (λ l u. n u) ∙ sym (filled_out _ 0 198 result k (λ l u. n u))
 
--- ---- answer_number, faults
+-- ---- faults
 
-pub refused_number : (answer : Answer) (x : Refusal) (r : ℕ) → answer ≡ Refused x → r ≡ refusal_number x → r ≡ get_or (answer_numbers answer) 0 0
-unfolding answer_numbers
-refused_number answer x r e er = rw (e, er) refl
-
-pub check_passed : (r : Record) (given room : ℕ) (check : checks.Answer) → check ≡ faults_checked r given room → check ≡ checks.TheVariants.Accepted →
-    Taken r given room
+pub check_passed : (r : Record) (given room : ℕ) (check : refusals.Answer) → check ≡ faults_checked r given room → check ≡ Ok tt → Taken r given room
 check_passed r given room check e a = faults_taken r given room (ap accepted (sym e ∙ a))
 
-module _ (r : Record) (bytes result : List ℕ) (check : checks.Answer) (e : check ≡ faults_checked r (length bytes) (length result)) where
-  pub refused_is : (x : Refusal) → check ≡ checks.TheVariants.Refused x →
-      (Refused x ≡ faults_answer r bytes result) × (result ≡ faults_result r bytes result)
+module _ (r : Record) (bytes result : List ℕ) (check : refusals.Answer) (e : check ≡ faults_checked r (length bytes) (length result)) where
+  pub refused_is : (x : Refusal) → check ≡ Err x → (Err x ≡ faults_answer r bytes result) × (result ≡ faults_result r bytes result)
   unfolding faults_answer faults_result answered
   refused_is x a = (rw (sym e ∙ a) refl, rw (sym e ∙ a) refl)
 
-  pub read_is : (read new : List ℕ) (opens shorts : ℕ) (answer : Answer) → check ≡ checks.TheVariants.Accepted →
+  pub read_is : (read new : List ℕ) (opens shorts : ℕ) (g : Agreement) → check ≡ Ok tt →
       read ≡ filled (bits_reading r.header.member bytes) 0 198 result → new ≡ filled (tested_at r.image read) 0 198 read →
       ltb 0 opens ≡ some_faulty Open r.header.member bytes → ltb 0 shorts ≡ some_faulty Short r.header.member bytes →
-      answer ≡ Read (beq (bit_set (get_or bytes 0 0) 1) (ltb 0 opens)) (beq (bit_set (get_or bytes 0 0) 0) (ltb 0 shorts)) →
-      (answer ≡ faults_answer r bytes result) × (new ≡ faults_result r bytes result)
+      g.opens ≡ beq (bit_set (get_or bytes 0 0) 1) (ltb 0 opens) → g.shorts ≡ beq (bit_set (get_or bytes 0 0) 0) (ltb 0 shorts) →
+      (Ok g ≡ faults_answer r bytes result) × (new ≡ faults_result r bytes result)
   unfolding faults_answer faults_result answered opens_agree shorts_agree fault_byte
-  read_is read new opens shorts answer a er en eo es ea = (
-    ea ∙ rw (eo, es, sym e ∙ a) refl,
+  read_is read new opens shorts g a er en eo es eg eh = (
+    ap (λ (o : Bool). agreed o g.shorts) (eg ∙ ap (beq _) eo) ∙ ap (agreed _) (eh ∙ ap (beq _) es) ∙ rw (sym e ∙ a) refl,
     en ∙ ap (λ (l : List ℕ). filled (tested_at r.image l) 0 198 l) er
         ∙ both_passes r bytes result (check_passed r _ _ check e a).result ∙ rw (sym e ∙ a) refl,
   )

@@ -1,7 +1,7 @@
 -- Faults, computed on one set of fault bytes: sinks 0 and 2 of line 0 and sink 0 of line 1 are open, sinks 1 and 2 of line 0 short, and
 -- the last dot is both.
 -- Assumes nothing.
-use Rattle.std.specs.Prelude.{◌≡◌, Bool, true, false, List, [], ◌∷◌, ◌++◌, map, ℕ, take, drop, replicate}
+use Rattle.std.specs.Prelude.{◌≡◌, Err, Bool, true, false, List, [], ◌∷◌, ◌++◌, map, ℕ, take, drop, replicate}
 use Rattle.std.proofs.Math.Path.{refl}
 use Rattle.map.specs.declared.refusals.Refusal.TheVariants.{FaultLength}
 use Rattle.map.specs.Refusals.{answer_number, open_answer, opens}
@@ -10,8 +10,7 @@ use Rattle.map.specs.Lists.{filled}
 use Rattle.dots.specs.Dots.{wide_of, level_of}
 use Rattle.host.specs.declared.Record.{Record}
 use Rattle.host.specs.Record.{header_of, record_of, free, sound_of, when_sound}
-use Rattle.faults.specs.declared.Answer.TheVariants.{Read, Refused}
-use Rattle.faults.specs.Faults.{faults_checked, fault_byte, bit_set, is_set, tested_from_narrow, tested_from_wide, tested_from, is_dim, has_dot, lamp_reading, reading, readings, some_below, is_faulty, some_faulty, opens_agree, shorts_agree, answer_numbers, answered, faults_answer, faults_result}
+use Rattle.faults.specs.Faults.{faults_checked, fault_byte, bit_set, is_set, tested_from_narrow, tested_from_wide, tested_from, is_dim, has_dot, lamp_reading, reading, readings, some_below, is_faulty, some_faulty, opens_agree, shorts_agree, agreed, answer_numbers, answered, faults_answer, faults_result}
 
 -- "13: input not 67. 10: result under 198.", in this order, for a sound record
 module _ (r : Record) (sound : sound_of r ≡ true) where
@@ -77,6 +76,6 @@ unfolding opens_agree shorts_agree some_faulty some_below is_faulty has_dot is_s
 absent_dots = (refl, refl)
 
 -- "this paper's number and values": 0 and 1 where 064h agrees; a refusal "carries only its number"
-numbers_and_values : (answer_numbers (Read true false) ≡ 0 ∷ 1 ∷ 0 ∷ []) × (answer_numbers (Read false true) ≡ 0 ∷ 0 ∷ 1 ∷ []) × (answer_numbers (Refused FaultLength) ≡ 13 ∷ [])
+numbers_and_values : (answer_numbers (agreed true false) ≡ 0 ∷ 1 ∷ 0 ∷ []) × (answer_numbers (agreed false true) ≡ 0 ∷ 0 ∷ 1 ∷ []) × (answer_numbers (Err FaultLength) ≡ 13 ∷ [])
 unfolding answer_numbers
 numbers_and_values = (refl, refl, refl)

@@ -2,31 +2,31 @@
 -- member's code, d a dot's number, f the field Open or Short, a an address, image a chip image, bytes the fault bytes and result the
 -- buffer. Every definition is total.
 -- Assumes nothing.
-use Rattle.std.specs.Prelude.{Bool, true, false, cond, ◌&&◌, ◌||◌, List, [], ◌∷◌, ℕ, zero, suc, ◌-◌, ◌/◌, ◌%◌, ◌^◌, ltb, eqb, length, get_or}
+use Rattle.std.specs.Prelude.{Bool, true, false, cond, ◌&&◌, ◌||◌, List, [], ◌∷◌, ℕ, Result, Ok, Err, zero, suc, ◌-◌, ◌/◌, ◌%◌, ◌^◌, ltb, eqb, length, get_or}
 use Rattle.std.specs.Bool.{beq}
 use Rattle.map.specs.declared.dots.Field.{Field}
 use Rattle.map.specs.declared.dots.Field.TheVariants.{Open, Short}
-use Rattle.map.specs.declared.refusals.Answer as checks
+use Rattle.map.specs.declared.refusals.Refusal.{Refusal}
 use Rattle.map.specs.declared.refusals.Refusal.TheVariants.{FaultLength, BufferShort}
+use Rattle.map.specs.Refusals as refusals
 use Rattle.map.specs.Refusals.{refusal_number, accepted}
 use Rattle.map.specs.Map.{lines_of, columns_of, number_in, address_of, shift_of}
 use Rattle.map.specs.Lists.{filled}
 use Rattle.dots.specs.Dots.{wide_of, level_of}
 use Rattle.host.specs.declared.Record.{Record}
 use Rattle.host.specs.Record.{when_sound}
-use Rattle.faults.specs.declared.Answer.{Answer}
-use Rattle.faults.specs.declared.Answer.TheVariants.{Read, Refused}
+use Rattle.faults.specs.declared.Agreement.{Agreement}
 
 -- ---- The refusals
 
 -- "Faults takes the record in place of the member and checks 14 first, and 1 never occurs there"; then "13: input not 67. 10: result under
 -- 198.": by the lengths of the fault bytes and of the buffer
-unfoldable pub faults_checked : Record → ℕ → ℕ → checks.Answer
+unfoldable pub faults_checked : Record → ℕ → ℕ → refusals.Answer
 faults_checked r given room =
     when_sound r
     (cond (eqb given 67)
-    (cond (ltb room 198) (checks.TheVariants.Refused BufferShort) checks.TheVariants.Accepted)
-    (checks.TheVariants.Refused FaultLength))
+    (cond (ltb room 198) (Err BufferShort) (Ok tt))
+    (Err FaultLength))
 
 -- ---- The fault bytes
 
@@ -108,15 +108,22 @@ shorts_agree m bytes = beq (bit_set (fault_byte bytes 0x064) 0) (some_faulty Sho
 
 -- ---- The answer and the buffer
 
+-- "The answer says": the two answers about 064h, or a refusal
+abbrev pub Answer : Type 0
+Answer = Result Agreement Refusal
+
+abbrev pub agreed : Bool → Bool → Answer
+agreed opens shorts = Ok (record { opens = opens; shorts = shorts })
+
 -- the number and the values of an answer: 0 and, for opens and for shorts, 1 where 064h agrees; a refusal "carries only its number"
 unfoldable pub answer_numbers : Answer → List ℕ
-answer_numbers (Read opens shorts) = 0 ∷ cond opens 1 0 ∷ cond shorts 1 0 ∷ []
-answer_numbers (Refused r) = refusal_number r ∷ []
+answer_numbers (Ok g) = 0 ∷ cond g.opens 1 0 ∷ cond g.shorts 1 0 ∷ []
+answer_numbers (Err r) = refusal_number r ∷ []
 
 -- what the checks refuse is refused; else the two answers about 064h
-unfoldable pub answered : checks.Answer → Bool → Bool → Answer
-answered checks.TheVariants.Accepted opens shorts = Read opens shorts
-answered (checks.TheVariants.Refused r) opens shorts = Refused r
+unfoldable pub answered : refusals.Answer → Bool → Bool → Answer
+answered (Ok u) opens shorts = agreed opens shorts
+answered (Err r) opens shorts = Err r
 
 -- "The answer says whether 064h bit 1 equals "some existing dot is open" and bit 0 the same for short."
 unfoldable pub faults_answer : Record → List ℕ → List ℕ → Answer

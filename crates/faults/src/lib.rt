@@ -13,84 +13,63 @@ mod answers;
 mod readings;
 mod untested;
 
-ghost use Rattle.std.specs.Prelude.{cond, ◌≡◌, get_or};
+ghost use Rattle.std.specs.Prelude.{◌≡◌, get_or};
 ghost use Rattle.map.specs.Refusals.{numbers_of};
-ghost use Rattle.host.specs.Record.{record_of};
+ghost use Rattle.host.specs.Record.{record_behind};
 ghost use Rattle.faults.specs.Faults.{answer_numbers, faults_answer, faults_result};
 
-use host::{Header, Record};
+use host::{Record, RecordRef};
 use map::Refusal;
 
+// Whether 064h agrees with the open bits and with the short bits of the member's dots.
 #[derive(Clone, Copy)]
-pub enum Answer {
-    // whether 064h agrees with the open bits and with the short bits of the member's dots
-    Read {
-        opens_agree: bool,
-        shorts_agree: bool,
-    },
-    Refused(Refusal),
+pub struct Agreement {
+    pub opens: bool,
+    pub shorts: bool,
 }
 
 // 0 where Faults is accepted, else the refusal's number.
-pub fn answer_number(answer: Answer) -> u8
+#[tactic(auto, unfolding(crate::specs::Faults::answer_numbers))]
+pub fn answer_number(answer: Result<Agreement, Refusal>) -> u8
     ensures { result ≡ get_or (answer_numbers answer) 0 0 }
 {
     match answer {
-        Answer::Read {
-            opens_agree: _,
-            shorts_agree: _,
-        } => 0,
-        Answer::Refused(refusal) => map::refusal_number(refusal),
+        Ok(_) => 0,
+        Err(refusal) => map::refusal_number(refusal),
     }
 }
 
-// 1 where 064h agrees.
-fn digit(agrees: bool) -> usize
-    ensures { result ≡ cond agrees 1 0 }
-{
-    if agrees { 1 } else { 0 }
-}
-
-// 0 and the two digits, or the refusal's number.
-pub fn answer_numbers(answer: Answer) -> map::Numbers
+// 0 and, for opens and for shorts, 1 where 064h agrees; or the refusal's number.
+#[tactic(auto, unfolding(crate::specs::Faults::answer_numbers))]
+pub fn answer_numbers(answer: Result<Agreement, Refusal>) -> map::Numbers
     ensures { result ≡ numbers_of (answer_numbers answer) }
 {
     match answer {
-        Answer::Read {
-            opens_agree,
-            shorts_agree,
-        } => map::with_values(0, digit(opens_agree), digit(shorts_agree)),
-        Answer::Refused(refusal) => map::number_alone(map::refusal_number(refusal) as usize),
+        Ok(agrees) => map::with_values(0, agrees.opens as usize, agrees.shorts as usize),
+        Err(refusal) => map::number_alone(map::refusal_number(refusal) as usize),
     }
 }
 
-// Faults on a record in its parts.
-pub fn faults_parts<'a>(
-    header: Header,
-    settings: &'a [u8],
-    image: &'a [u8],
-    bytes: &[u8],
-    res: &mut [u8],
-) -> Answer
-    ensures value { result ≡ faults_answer (record_of header settings.now image.now) bytes.now res.old }
-    ensures result_after { res.new ≡
-        faults_result (record_of header settings.now image.now) bytes.now res.old }
+// Faults on a record that is kept elsewhere.
+pub fn faults_parts(r: RecordRef<'_>, bytes: &[u8], res: &mut [u8]) -> Result<Agreement, Refusal>
+    ensures value { result ≡ faults_answer (record_behind r.entry) bytes.now res.old }
+    ensures result_after { res.new ≡ faults_result (record_behind r.entry) bytes.now res.old }
 {
-    let checked = answers::checked(header, settings, image, bytes.len(), res.len());
-    match checked {
-        map::Answer::Refused(refusal) => Answer::Refused(refusal),
-        map::Answer::Accepted => {
-            let found = readings::read_all(header.member as usize, bytes, res);
-            untested::mark(image, dots::wide(image), res);
-            answers::read(bytes[0], found.opens, found.shorts)
-        }
-    }
+    answers::checked(r, bytes.len(), res.len())?;
+    let found = readings::read_all(r.header.member as usize, bytes, res);
+    untested::mark(r.image, dots::wide(r.image), res);
+    Ok(answers::read(bytes[0], found))
 }
 
 // The readings of 198 dots, by their numbers, go to the front of the result; a refusal leaves every byte of it as it is.
-pub fn faults(r: Record, bytes: &[u8], res: &mut [u8]) -> Answer
+pub fn faults(r: Record, bytes: &[u8], res: &mut [u8]) -> Result<Agreement, Refusal>
     ensures value { result ≡ faults_answer r bytes.now res.old }
     ensures result_after { res.new ≡ faults_result r bytes.now res.old }
 {
-    faults_parts(r.header, &r.settings, &r.image, bytes, res)
+    let lent = RecordRef {
+        header: r.header,
+        settings: &r.settings,
+        image: &r.image,
+    };
+    faults_parts(lent, bytes, res)
 }

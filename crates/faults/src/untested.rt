@@ -12,6 +12,7 @@ const TESTED_FROM_NARROW: usize = 25;
 // And in data modes 2 and 3.
 const TESTED_FROM_WIDE: usize = 6400;
 
+#[tactic(auto, unfolding(crate::specs::Faults::tested_from, crate::specs::Faults::tested_from_wide, crate::specs::Faults::tested_from_narrow))]
 fn tested_from(wide: bool) -> usize
     ensures { result ≡ tested_from wide }
 {
@@ -23,13 +24,11 @@ fn tested_from(wide: bool) -> usize
 }
 
 // A reading by the bits; of a lamp with clear bits, 5 where it is dim.
+#[tactic(auto, unfolding(crate::specs::Passes::unless_dim))]
 fn unless_dim(reading: u8, dim: bool) -> u8
     ensures { result ≡ unless_dim dim reading }
 {
-    if reading != 0 {
-        return reading;
-    }
-    if dim { 5 } else { 0 }
+    if reading == 0 && dim { 5 } else { reading }
 }
 
 // Of the readings by the bits, each 0 of a lamp that is dim in the image becomes 5. `wide` is whether the image has levels of 16 bits.
@@ -38,10 +37,8 @@ pub(crate) fn mark(image: &[u8], wide: bool, res: &mut [u8])
     ensures { res.new ≡ filled (tested_at image.now res.old) 0 198 res.old }
 {
     let figure = tested_from(wide);
-    let mut dot: usize = 0;
-    while dot < 198 {
+    for dot in 0..198 {
         let dim = dots::level_as(image, wide, dot as u8) < figure;
         res[dot] = unless_dim(res[dot], dim);
-        dot += 1;
     }
 }
