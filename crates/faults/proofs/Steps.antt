@@ -8,7 +8,7 @@ use native.Mathlib.Nat.{zero-add, add-zero}
 use native.Mathlib.Numerals.{add-one}
 use native.Mathlib.Decide.{ℕ_discrete, dec_lt}
 use native.Mathlib.Omega.{arith}
-use borrow.Author.Tests.{eq-eqb, ne_eqb, lt-ltb}
+use borrow.Author.Tests.{ne_eqb, lt-ltb}
 use lib.Dec.{ltb, eqb}
 use lib.ListN.{length, get_or, set, length-set}
 use lib.Seq.{ext_get_or}
@@ -23,7 +23,7 @@ use Rattle.map.specs.Lists.{filled}
 use Rattle.map.specs.ListLaws.{filled_none, filled_more, filled_length, filled_in, filled_out}
 use Rattle.dots.specs.Dots.{wide_of, level_of}
 use Rattle.host.specs.declared.Record.{Record}
-use Rattle.faults.specs.Faults.{fault_byte, bit_set, is_set, tested_from, is_dim, has_dot, lamp_reading, reading, readings, some_below, is_faulty, some_faulty, opens_agree, shorts_agree, faults_checked, Answer, agreed, answered, faults_answer, faults_result}
+use Rattle.faults.specs.Faults.{fault_byte, bit_set, is_set, tested_from, is_dim, has_dot, lamp_reading, reading, readings, some_below, is_faulty, some_faulty, opens_agree, shorts_agree, faults_checked, agreed, answered, faults_answer, faults_result}
 use Rattle.faults.proofs.FaultLaws.{Taken, faults_taken}
 use Rattle.faults.specs.OldReadings.{by_bits, bits_reading}
 use Rattle.faults.specs.Passes.{ReadTo, unless_dim, tested_at}

@@ -10,6 +10,7 @@ use host::RecordRef;
 use map::{Answer, Refusal};
 
 // The refusals, by a record and the lengths of the fault bytes and of the result.
+#[tactic(auto, unfolding(crate::specs::Faults::faults_checked, host::specs::Record::when_sound))]
 pub(crate) fn checked(r: RecordRef<'_>, given: usize, room: usize) -> Answer
     ensures { result ≡ faults_checked (record_behind r.entry) given room }
 {
@@ -34,6 +35,7 @@ fn agrees(bit: u8, faulty: u8) -> bool
 }
 
 // What 064h, here `state`, says beside the open and the short dots that are found.
+#[tactic(auto, unfolding(crate::specs::Faults::bit_set))]
 pub(crate) fn read(state: u8, found: Found) -> Agreement
     ensures { (result.opens ≡ beq (bit_set state 1) (ltb 0 found.opens)) × (result.shorts ≡ beq (bit_set state 0) (ltb 0 found.shorts)) }
 {

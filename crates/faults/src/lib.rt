@@ -66,10 +66,5 @@ pub fn faults(r: Record, bytes: &[u8], res: &mut [u8]) -> Result<Agreement, Refu
     ensures value { result ≡ faults_answer r bytes.now res.old }
     ensures result_after { res.new ≡ faults_result r bytes.now res.old }
 {
-    let lent = RecordRef {
-        header: r.header,
-        settings: &r.settings,
-        image: &r.image,
-    };
-    faults_parts(lent, bytes, res)
+    faults_parts(r.lent(), bytes, res)
 }

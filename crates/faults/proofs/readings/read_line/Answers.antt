@@ -5,7 +5,7 @@ use Rattle.faults.proofs.Steps.{line_none, line_more, line_whole}
 use Rattle.faults.proofs.readings.read_line.Goals as goal
 
 pub loop-sink-init : goal.loop-sink-init
-loop-sink-init c = line_none _ _ _ _ _ _ c.requires.5 c.requires.6
+loop-sink-init c = line_none _ _ _ _ _ _ c.requires.3 c.requires.4
 
 pub fault_bit-opened-requires : goal.fault_bit-opened-requires
 fault_bit-opened-requires c = (omega arith, omega arith)
@@ -18,7 +18,7 @@ reading-requires c = (omega (arith, c.fault_bit-opened.ensures.1), omega (arith,
 
 pub loop-sink-preserved : goal.loop-sink-preserved
 loop-sink-preserved c =
-    line_more _ _ _ _ _ _ _ _ _ _ _ _ _ _ _ _ (omega arith) (omega arith) c.requires.0 c.requires.1
+    line_more _ _ _ _ _ _ _ _ _ _ _ _ _ _ _ _ (omega arith) (omega arith) c.lines-lines.ensures.0 c.columns-columns.ensures
     c.dot_in-exists.ensures c.fault_bit-opened.ensures c.fault_bit-shorted.ensures c.reading.ensures c.loop-sink.invariant
 
 pub returns : goal.returns
