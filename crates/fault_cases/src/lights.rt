@@ -1,4 +1,6 @@
 // The lights that each example is read in: every data mode, with all lamps one level below the figure and at it.
+use crate::compare::Readings;
+use crate::examples::EXAMPLES;
 use crate::tally::Tally;
 use crate::{compare, records, report};
 
@@ -10,9 +12,7 @@ struct Light {
     dim: bool,
 }
 
-const COUNT: usize = 8;
-
-const LIGHTS: [Light; COUNT] = [
+static LIGHTS: [Light; 8] = [
     Light {
         mode: 0,
         level: 24,
@@ -55,54 +55,27 @@ const LIGHTS: [Light; COUNT] = [
     },
 ];
 
-// The example in one light: where its lamps are dim, those with clear bits read 5.
-fn in_light(
-    rt: &impl Print,
-    tally: Tally,
-    light: Light,
-    member: usize,
-    named: &[u8],
-    dots: &[u8],
-    counts: [u8; 5],
-    opens: bool,
-    shorts: bool,
-) -> Tally {
-    let record = records::all_at(member, light.mode, light.level, light.dim);
-    let sound = if light.dim { 0 } else { counts[0] };
-    let untested = if light.dim { counts[0] } else { 0 };
-    compare::reads(
-        rt,
-        tally,
-        record,
-        named,
-        dots,
-        if light.dim { 5 } else { 0 },
-        [sound, counts[1], counts[2], counts[3], counts[4], untested],
-        opens,
-        shorts,
-    )
+// Of dim lamps those with clear bits read 5.
+fn untested(reads: Readings) -> Readings {
+    let [sound, opens, shorts, both, absent, _] = reads.counts;
+    Readings {
+        counts: [0, opens, shorts, both, absent, sound],
+        ..reads
+    }
 }
 
-// The member's readings where the fault bytes have the named values: of some dots, and how many dots read 0, 1, 2, 3 and 4, all of bright
-// lamps.
-pub fn reads(
-    rt: &impl Print,
-    tally: Tally,
-    name: &[u8],
-    member: usize,
-    named: &[u8],
-    dots: &[u8],
-    counts: [u8; 5],
-    opens: bool,
-    shorts: bool,
-) -> Tally {
-    let lights = LIGHTS;
-    let mut tally = tally;
-    for i in 0..COUNT {
-        let light = lights[i];
-        report::begin(rt, name);
-        report::light(rt, light.mode, light.level);
-        tally = in_light(rt, tally, light, member, named, dots, counts, opens, shorts);
+// Every example of the members in each light.
+pub fn all(rt: &impl Print, tally: &mut Tally) {
+    for example in &EXAMPLES {
+        for light in &LIGHTS {
+            report::begin(rt, example.name);
+            report::light(rt, light.mode, light.level);
+            let record = records::all_at(example.member, light.mode, light.level, light.dim);
+            if light.dim {
+                compare::reads(rt, tally, record, &untested(example.reads), 5);
+            } else {
+                compare::reads(rt, tally, record, &example.reads, 0);
+            }
+        }
     }
-    tally
 }

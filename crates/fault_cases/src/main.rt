@@ -14,14 +14,12 @@ mod refusals;
 mod report;
 mod tally;
 
+use tally::Tally;
+
 fn main(rt: HostRuntime) {
-    let tally = tally::nothing();
-    let tally = examples::lp5860(&rt, tally);
-    let tally = examples::lp5861t(&rt, tally);
-    let tally = examples::lp5864(&rt, tally);
-    let tally = examples::lp5867(&rt, tally);
-    let tally = examples::lp5868t(&rt, tally);
-    let tally = levels::all(&rt, tally);
-    let tally = refusals::all(&rt, tally);
+    let mut tally = Tally::default();
+    lights::all(&rt, &mut tally);
+    levels::all(&rt, &mut tally);
+    refusals::all(&rt, &mut tally);
     report::total(&rt, tally);
 }

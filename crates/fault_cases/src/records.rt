@@ -39,18 +39,12 @@ pub fn all_at(member: usize, mode: u8, level: usize, dim: bool) -> Record {
     beside(lit(member, mode, level), mode, dim)
 }
 
-// One more lamp: its dot number, and the level's low and high byte.
-fn with_lamp(panel: Record, dot: u8, low: u8, high: u8) -> Record {
-    let number = dot as usize;
-    let level = low as usize + 256 * (high as usize);
-    host::lamp(panel, number / 18, number % 18, level).host
-}
-
-// A record whose lamps have these levels in the image: three bytes each, as above. All others have 0.
-pub fn with_levels(member: usize, mode: u8, levels: &[u8]) -> Record {
+// A record whose lamps have these levels in the image, by dot. All others have 0.
+pub fn with_levels(member: usize, mode: u8, levels: &[(u8, usize)]) -> Record {
     let mut panel = in_mode(member, mode);
-    for i in 0..levels.len() / 3 {
-        panel = with_lamp(panel, levels[3 * i], levels[3 * i + 1], levels[3 * i + 2]);
+    for (dot, level) in levels {
+        let number = *dot as usize;
+        panel = host::lamp(panel, number / 18, number % 18, *level).host;
     }
     beside(panel, mode, true)
 }
