@@ -1,7 +1,7 @@
 -- The loops over bytes: a block compared, the first difference, a copy.
 -- Assumes nothing.
-use mathlib.Core.Path.{◌≡◌, refl, sym, ap, subst, ◌∙◌}
-use mathlib.Core.List.{List, [], ◌∷◌, ◌++◌}
+use mathlib.Core.Path.{◌≡◌, refl, sym, ap, ap₂, subst, ◌∙◌}
+use mathlib.Core.List.{List, [], ◌∷◌, ◌++◌, append_assoc}
 use Prim.Native.Nat.{ℕ, suc, ◌+◌, ◌-◌, ◌*◌, ◌/◌, ◌≤◌, ◌<◌, min}
 use native.Mathlib.Nat.{add-zero}
 use native.Mathlib.Decide.{dec_lt, dec_le, ℕ_discrete}
@@ -9,7 +9,8 @@ use native.Mathlib.Numerals.{add-one}
 use native.Mathlib.Omega.{arith}
 use lib.Bits.{bit_or, bit_xor, or_add_and, xor_add_and, and_le_l, and_le_r}
 use lib.ListN.{length, get_or, take, drop, set, length-take, length-drop, length-set}
-use lib.Seq.{sets, length-sets, take-suc, get_or-drop, length-take-le, take_all, take-take}
+use lib.Seq.{sets, sets-eq, length-sets, length-take-le, drop-drop, take_all, take-take}
+use borrow.Rule.Slice.PartMut.{put_mid}
 use Rattle.burst.specs.Burst.{size_bytes, put_size, head_first, head_second, transaction_of}
 use Rattle.plan.specs.Update.{data_of}
 use Rattle.writes.specs.Found.{SameTo}
@@ -71,50 +72,30 @@ take_most k n xs = go (dec_le k n)
         ap (λ (j : ℕ). take j xs) z ∙ sym (take_all n (take k xs) (omega (arith, length-take k xs)))
     go (no h) = let z : min k n ≡ n = omega arith in ap (λ (j : ℕ). take j xs) z ∙ sym (take-take n k xs (omega arith))
 
-module _ (old from : List ℕ) (to start : ℕ) where
-  pub record Copied (i : ℕ) (new : List ℕ) : Type 0 where
-    pub size : length new ≡ length old
-    pub is : new ≡ sets old to (take i (drop start from))
+-- k bytes, copied over k places
+pub part_copied : (old from : List ℕ) (at start k i j : ℕ) (new : List ℕ) → new ≡ take j (drop start from) → i ≡ k → j ≡ k →
+    at + k ≤ length old → start + k ≤ length from → put_mid at i old new ≡ sets old at (take k (drop start from))
+part_copied old from at start k i j new e ei ej h l =
+    let xs : List ℕ = take k (drop start from) in
+    let size : length xs ≡ k = length-take-le k (drop start from) (omega (arith, length-drop start from)) in
+    let rest : drop i (drop at old) ≡ drop (at + length xs) old = drop-drop i at old ∙ ap (λ (n : ℕ). drop n old) (omega (arith, size)) in
+    let put : sets old at xs ≡ take at old ++ (xs ++ drop (at + length xs) old) =
+    sets-eq xs old at (omega (arith, size)) ∙ append_assoc (take at old) xs (drop (at + length xs) old) in
+    let same : new ≡ xs = e ∙ ap (λ (n : ℕ). take n (drop start from)) ej in
+    ap₂ (λ (x y : List ℕ). take at old ++ (x ++ y)) same rest ∙ sym put
 
-  pub copied_none : Copied 0 old
-  copied_none = record { size = refl; is = refl }
-
-  pub copied_more : (i : ℕ) (new : List ℕ) → start + i < length from → Copied i new → Copied (i + 1) (set new (to + i) (get_or from (start + i) 0))
-  copied_more i new h c = record {
-    size = length-set new (to + i) (get_or from (start + i) 0) ∙ c.size;
-    is =
-        ap (λ (l : List ℕ). set l (to + i) (get_or from (start + i) 0)) c.is
-        ∙ ap (λ (k : ℕ). set (sets old to (take i xs)) (to + k) (get_or from (start + i) 0)) (sym short)
-        ∙ sets_append (take i xs) (get_or from (start + i) 0 ∷ []) old to
-        ∙ ap (λ (v : ℕ). sets old to (take i xs ++ (v ∷ []))) (sym (get_or-drop start from i 0))
-        ∙ ap (λ (l : List ℕ). sets old to l) (sym (take-suc xs i 0 inside) ∙ ap (λ (k : ℕ). take k xs) (sym (add-one i)));
-  }
-    where
-      xs : List ℕ
-      xs = drop start from
-
-      inside : i < length (drop start from)
-      inside = omega (arith, length-drop start from)
-
-      short : length (take i (drop start from)) ≡ i
-      short = length-take-le i (drop start from) (omega (arith, inside))
-
-  -- all of them
-  pub copied_all : (len i : ℕ) (new : List ℕ) → i ≡ len → Copied i new → new ≡ sets old to (take len (drop start from))
-  copied_all len i new e c = c.is ∙ ap (λ (k : ℕ). sets old to (take k (drop start from))) e
-
-  -- as many as there are
-  pub copied_most : (len most count : ℕ) (new : List ℕ) → most ≡ min len (length from - start) → count ≡ min most (length old - to) →
-      new ≡ sets old to (take count (drop start from)) → new ≡ sets old to (take len (drop start from))
-  copied_most len most count new em ec e =
-      let xs : List ℕ = drop start from in
-      let all : take (min len (length from - start)) xs ≡ take len xs =
-      take_most len (length from - start) xs ∙ take_all (length from - start) (take len xs) (omega (arith, length-take len xs, length-drop start from)) in
-      e
-      ∙ ap (λ (k : ℕ). sets old to (take k xs)) (ec ∙ ap (λ (k : ℕ). min k (length old - to)) em)
-      ∙ ap (sets old to) (take_most (min len (length from - start)) (length old - to) xs)
-      ∙ clipped (take (min len (length from - start)) xs) old to
-      ∙ ap (sets old to) all
+-- as many of the bytes as there are, at as many of the places
+pub copied_most : (old from : List ℕ) (to start len most count : ℕ) (new : List ℕ) → most ≡ min len (length from - start) → count ≡ min most (length old - to) →
+    new ≡ sets old to (take count (drop start from)) → new ≡ sets old to (take len (drop start from))
+copied_most old from to start len most count new em ec e =
+    let xs : List ℕ = drop start from in
+    let all : take (min len (length from - start)) xs ≡ take len xs =
+    take_most len (length from - start) xs ∙ take_all (length from - start) (take len xs) (omega (arith, length-take len xs, length-drop start from)) in
+    e
+    ∙ ap (λ (k : ℕ). sets old to (take k xs)) (ec ∙ ap (λ (k : ℕ). min k (length old - to)) em)
+    ∙ ap (sets old to) (take_most (min len (length from - start)) (length old - to) xs)
+    ∙ clipped (take (min len (length from - start)) xs) old to
+    ∙ ap (sets old to) all
 
 -- ---- sizes
 

@@ -6,8 +6,6 @@ ghost use Rattle.burst.specs.FrontLaws.{LeadsWithList};
 ghost use Rattle.plan.specs.Update.{store_all};
 ghost use Rattle.writes.specs.Stored.{Within, AllWithin};
 
-use crate::writer::store;
-
 // The data bytes of the transaction of `size` bytes at `from`. It answers how many it stored: none where the list or the image ends before.
 // (A list has fewer than 2 ^ 16 transactions, each of fewer than 2 ^ 16 bytes.)
 fn store_transaction(image: &mut [u8], bus: u8, list: &[u8], from: usize, size: usize) -> usize
@@ -19,10 +17,7 @@ fn store_transaction(image: &mut [u8], bus: u8, list: &[u8], from: usize, size: 
         sets image.old (burst_of bus (take size (drop from list.now))).start
         (burst_of bus (take size (drop from list.now))).bytes) }
 {
-    if size < 3 {
-        return 0;
-    }
-    if list.len() < from + size {
+    if size < 3 || list.len() < from + size {
         return 0;
     }
     let address = burst::head_address(bus, list[from], list[from + 1]);
@@ -30,7 +25,8 @@ fn store_transaction(image: &mut [u8], bus: u8, list: &[u8], from: usize, size: 
     if image.len() < address + len {
         return 0;
     }
-    store(image, address, list, from + 2, len)
+    image[address..address + len].copy_from_slice(&list[from + 2..from + size]);
+    len
 }
 
 // The data bytes of every transaction of the list at the front of these bytes. It answers how many it stored.
@@ -40,14 +36,12 @@ pub fn store_list(image: &mut [u8], bus: u8, list: &[u8]) -> usize
         × (image.new ≡ store_all (map (burst_of bus) (transactions list.now)) image.old) }
 {
     let n = burst::size_at(list, 0);
-    let mut stored: usize = 0;
+    let mut stored = 0;
     let mut from = 4 + 2 * n;
-    let mut i: usize = 0;
-    while i < n {
+    for i in 0..n {
         let size = burst::size_at(list, 4 + 2 * i);
         stored += store_transaction(image, bus, list, from, size);
         from += size;
-        i += 1;
     }
     stored
 }

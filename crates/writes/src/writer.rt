@@ -10,36 +10,17 @@ use host::Header;
 fn room(size: usize, at: usize, len: usize) -> usize
     ensures { result ≡ min len (size - at) }
 {
-    if size <= at {
-        return 0;
-    }
-    let left = size - at;
-    if left < len {
-        return left;
-    }
-    len
+    len.min(size.saturating_sub(at))
 }
 
-// `len` bytes of `from`, from `start` on, go to the places of `to` from `at` on. It answers how many, counted as they are stored.
-pub(crate) fn store(to: &mut [u8], at: usize, from: &[u8], start: usize, len: usize) -> usize
-    requires { 0 < len → (at + len ≤ length to.old) × (start + len ≤ length from.now) }
-    ensures value { result ≡ len }
-    ensures to_after { to.new ≡ sets to.old at (take len (drop start from.now)) }
-{
-    let mut i: usize = 0;
-    while i < len {
-        to[at + i] = from[start + i];
-        i += 1;
-    }
-    i
-}
-
-// The same of bytes and places that may not all be there: what lies behind either end is left out.
+// `len` bytes of `from`, from `start` on, go to the places of `to` from `at` on; what lies behind either end is left out.
 pub fn copy(to: &mut [u8], at: usize, from: &[u8], start: usize, len: usize)
     ensures { to.new ≡ sets to.old at (take len (drop start from.now)) }
 {
     let count = room(to.len(), at, room(from.len(), start, len));
-    store(to, at, from, start, count);
+    if 0 < count {
+        to[at..at + count].copy_from_slice(&from[start..start + count]);
+    }
 }
 
 // One transaction at a place: the head, and the settings' bytes from `start` on. What lies behind the buffer's end is left out.

@@ -29,9 +29,6 @@ overflow_add-stored c = omega (arith, c.loop-i.invariant.most, c.loop-i.invarian
 pub overflow_add-from-in-loop-i : goal.overflow_add-from-in-loop-i
 overflow_add-from-in-loop-i c = omega (arith, c.loop-i.invariant.place, c.loop-i.invariant.few, size_read _ _ _ c.size_at-size.ensures)
 
-pub overflow_add-i-in-loop-i : goal.overflow_add-i-in-loop-i
-overflow_add-i-in-loop-i c = omega (arith, c.loop-i.invariant.few)
-
 pub loop-i-preserved : goal.loop-i-preserved
 loop-i-preserved c =
     storing_more _ _ _ _ _ _ _ _ c.loop-i.invariant c.loop-i-test.true _ c.size_at-size.ensures _ _ c.store_transaction-stored.auto.image
