@@ -86,7 +86,14 @@ wants_on s = eqb (get_or s 0x000 0 % 2) 1
 unfoldable pub opened_ledger : ℕ → Ledger
 opened_ledger m = record { member = cond (ltb m 5) m 0; bytes = reset_image (cond (ltb m 5) m 0) }
 
--- one more call; bytes that no ledger holds are left as they are
+-- its bytes after a call; bytes that no ledger holds are left as they are
+abbrev pub entry_of : Ledger → Request → List ℕ → Ledger
+entry_of g request lent = record {
+  member = g.member;
+  bytes = cond (image_ok g.member g.bytes) (entry g.member g.bytes request lent) g.bytes;
+}
+
+-- one more call
 unfoldable pub entered_of : Ledger → Told → Ledger
 entered_of g x = record {
   member = g.member;

@@ -63,13 +63,13 @@ pub record Step : Type 0 where
 abbrev pub leaving : Stepped → List ℕ → Step
 leaving x lent = record { answer = x.answer; world = x.world; lent = lent }
 
--- a call that writes no list, and the chip after it; the lent bytes stay
+-- a call that writes no list, and the chip after it;
+abbrev pub changed_by : Changed → Chip → Stepped
+changed_by x c = record { answer = answers.TheVariants.Setting x.numbers; world = record { host = x.host; chip = c } }
+
+-- the lent bytes stay
 abbrev pub change_step : Changed → Chip → List ℕ → Step
-change_step x c lent = record {
-  answer = answers.TheVariants.Setting x.numbers;
-  world = record { host = x.host; chip = c };
-  lent = lent;
-}
+change_step x c lent = leaving (changed_by x c) lent
 
 -- a call that wrote a list, with the buffer after it and the chip before it
 abbrev pub list_step : Sent → List ℕ → Chip → Step

@@ -12,15 +12,8 @@ fn fed(answer: ListAnswer, chip: Chip, buffer: &[u8]) -> Chip
     ensures { result ≡ fed_by answer buffer.now chip }
 {
     match answer {
-        ListAnswer::Listed { n, t } => {
-            let size = 4 + 2 * n + t;
-            let list = &buffer[..size];
-            let fed = chip::feed(chip, list);
-            let after = fed.chip;
-            after
-        }
-        ListAnswer::Short { needed: _ } => chip,
-        ListAnswer::Refused(_) => chip,
+        ListAnswer::Listed { n, t } => chip::feed(chip, &buffer[..4 + 2 * n + t]).chip,
+        ListAnswer::Short { needed: _ } | ListAnswer::Refused(_) => chip,
     }
 }
 
@@ -29,16 +22,12 @@ pub(crate) fn listed(sent: Sent, chip: Chip, buffer: &[u8]) -> Stepped
     requires { Within sent.answer (length buffer.now) }
     ensures { leaving result buffer.now ≡ list_step sent buffer.now chip }
 {
-    let answer = sent.answer;
-    let host = sent.host;
-    let after = fed(answer, chip, buffer);
-    let world = World {
-        host: host,
-        chip: after,
-    };
     Stepped {
-        answer: CallAnswer::List(answer),
-        world: world,
+        answer: CallAnswer::List(sent.answer),
+        world: World {
+            host: sent.host,
+            chip: fed(sent.answer, chip, buffer),
+        },
     }
 }
 
@@ -47,19 +36,14 @@ pub(crate) fn updated(updated: Updated, chip: Chip, buffer: &[u8]) -> Stepped
     requires { Within updated.answer (length buffer.now) }
     ensures { leaving result buffer.now ≡ update_step updated buffer.now chip }
 {
-    let list = updated.answer;
-    let stored = updated.stored;
-    let host = updated.host;
-    let heard = fed(list, chip, buffer);
-    let world = World {
-        host: host,
-        chip: heard,
-    };
     Stepped {
         answer: CallAnswer::Update {
-            list: list,
-            stored: stored,
+            list: updated.answer,
+            stored: updated.stored,
         },
-        world: world,
+        world: World {
+            host: updated.host,
+            chip: fed(updated.answer, chip, buffer),
+        },
     }
 }

@@ -1,9 +1,8 @@
 // The ledger as a value: a setting is put to a record that has the ledger's bytes for its settings, on bus 0 with pins 0 and not locked, and
 // what the record then has is the ledger. So the ledger takes a setting by its own bytes alone.
 ghost use Rattle.std.specs.Prelude.{◌≡◌, cond, ltb};
-ghost use Rattle.map.specs.Images.{image_ok};
 ghost use Rattle.calls.specs.declared.Request.TheVariants.{Set};
-ghost use Rattle.history.specs.Ledger.{entry, opened_ledger};
+ghost use Rattle.history.specs.Ledger.{entry_of, opened_ledger};
 
 use crate::Ledger;
 use calls::{Request, Setting};
@@ -20,43 +19,41 @@ pub(crate) fn opened(member: usize) -> Ledger
     ensures { result ≡ opened_ledger member }
 {
     let known = known(member);
-    let bytes = images::reset_image(known as usize);
     Ledger {
         member: known,
-        bytes: bytes,
+        bytes: images::reset_image(known as usize),
     }
 }
 
-// The bytes after a setting.
-fn set(member: u8, bytes: [u8; 908], setting: Setting, lent: &[u8]) -> [u8; 908]
-    ensures { result ≡ cond (image_ok member bytes) (entry member bytes (Set setting) lent.now) bytes }
+// The ledger after a setting.
+fn set(ledger: Ledger, setting: Setting, lent: &[u8]) -> Ledger
+    ensures { result ≡ entry_of ledger (Set setting) lent.now }
 {
+    let bytes = ledger.bytes;
     let header = Header {
-        member: member,
+        member: ledger.member,
         bus: 0,
         pins: 0,
         marks: host::FREE,
     };
     let asked = Record {
-        header: header,
+        header,
         settings: bytes,
         image: bytes,
     };
-    let changed = host::set(asked, setting, lent);
-    let after = changed.host;
-    let settings = after.settings;
-    settings
+    let settings = host::set(asked, setting, lent).host.settings;
+    Ledger {
+        bytes: settings,
+        ..ledger
+    }
 }
 
-// The bytes after one more call.
-pub(crate) fn entered(member: u8, bytes: [u8; 908], request: Request, lent: &[u8]) -> [u8; 908]
-    ensures { result ≡ cond (image_ok member bytes) (entry member bytes request lent.now) bytes }
+// The ledger after one more call.
+pub(crate) fn entered(ledger: Ledger, request: Request, lent: &[u8]) -> Ledger
+    ensures { result ≡ entry_of ledger request lent.now }
 {
     match request {
-        Request::Set(setting) => set(member, bytes, setting, lent),
-        Request::Reset => bytes,
-        Request::PowerLost => bytes,
-        Request::Update => bytes,
-        Request::Lock => bytes,
+        Request::Set(setting) => set(ledger, setting, lent),
+        Request::Reset | Request::PowerLost | Request::Update | Request::Lock => ledger,
     }
 }

@@ -9,8 +9,8 @@
 mod feeding;
 mod ledgers;
 
-ghost use Rattle.std.specs.Prelude.{◌≡◌, List, ℕ};
-ghost use Rattle.history.specs.Step.{call_numbers, answers_locked, leaving, change_step, step_of, clear_step};
+ghost use Rattle.std.specs.Prelude.{◌≡◌};
+ghost use Rattle.history.specs.Step.{call_numbers, answers_locked, leaving, changed_by, step_of, clear_step};
 ghost use Rattle.history.specs.Ledger.{told_of, opened_ledger, entered_of};
 
 use calls::Request;
@@ -64,48 +64,33 @@ pub fn call_numbers(answer: CallAnswer) -> Numbers
 pub fn answers_locked(answer: CallAnswer) -> bool
     ensures { result ≡ answers_locked answer }
 {
-    let numbers = call_numbers(answer);
-    numbers.number == map::refusal_number(Refusal::Locked) as usize
+    call_numbers(answer).number == map::refusal_number(Refusal::Locked) as usize
 }
 
 // One call on a world. The bytes of a Scene and the buffer of a Reset or an Update are lent.
 pub fn step(world: World, request: Request, lent: &mut [u8]) -> Stepped
     ensures { leaving result lent.new ≡ step_of world request lent.old }
 {
-    let host = world.host;
-    let chip = world.chip;
+    let World { host, chip } = world;
     match request {
         Request::Set(setting) => changed(host::set(host, setting, lent), chip),
-        Request::Reset => {
-            let sent = update::reset(host, lent);
-            feeding::listed(sent, chip, lent)
-        }
-        Request::PowerLost => {
-            let after = host::power_lost(host);
-            let reset = chip::power_lost(chip);
-            changed(after, reset)
-        }
-        Request::Update => {
-            let updated = update::update(host, lent);
-            feeding::updated(updated, chip, lent)
-        }
+        Request::Reset => feeding::listed(update::reset(host, lent), chip, lent),
+        Request::PowerLost => changed(host::power_lost(host), chip::power_lost(chip)),
+        Request::Update => feeding::updated(update::update(host, lent), chip, lent),
         Request::Lock => changed(host::lock(host), chip),
     }
 }
 
 // A call that writes no list, and the chip after it.
 fn changed(changed: Changed, chip: Chip) -> Stepped
-    ensures { (lent : List ℕ) → leaving result lent ≡ change_step changed chip lent }
+    ensures { result ≡ changed_by changed chip }
 {
-    let numbers = changed.numbers;
-    let host = changed.host;
-    let world = World {
-        host: host,
-        chip: chip,
-    };
     Stepped {
-        answer: CallAnswer::Setting(numbers),
-        world: world,
+        answer: CallAnswer::Setting(changed.numbers),
+        world: World {
+            host: changed.host,
+            chip,
+        },
     }
 }
 
@@ -113,10 +98,7 @@ fn changed(changed: Changed, chip: Chip) -> Stepped
 pub fn clear(world: World, buffer: &mut [u8]) -> Stepped
     ensures { leaving result buffer.new ≡ clear_step world buffer.old }
 {
-    let host = world.host;
-    let chip = world.chip;
-    let sent = update::clear(host, buffer);
-    feeding::listed(sent, chip, buffer)
+    feeding::listed(update::clear(world.host, buffer), world.chip, buffer)
 }
 
 // The ledger of a newly opened member. A member above 4 is never opened, and gives the ledger of member 0.
@@ -131,13 +113,8 @@ pub fn enter(ledger: Ledger, request: Request, lent: &[u8], locked: bool) -> Led
     ensures { result ≡ entered_of ledger (told_of request lent.now locked) }
 {
     if locked {
-        return ledger;
-    }
-    let member = ledger.member;
-    let bytes = ledger.bytes;
-    let entered = ledgers::entered(member, bytes, request, lent);
-    Ledger {
-        member: member,
-        bytes: entered,
+        ledger
+    } else {
+        ledgers::entered(ledger, request, lent)
     }
 }

@@ -6,4 +6,4 @@ use Rattle.history.proofs.answers_locked.Goals as goal
 
 pub returns : goal.returns
 unfolding answers_locked
-returns c = rw (c.call_numbers-numbers.ensures, c.refusal_number.ensures) refl
+returns c = rw (c.call_numbers.ensures, c.refusal_number.ensures) refl

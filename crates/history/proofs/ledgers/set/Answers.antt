@@ -1,7 +1,7 @@
 -- `history::ledgers::set` meets its contract.
 -- Assumes nothing.
-use Rattle.history.proofs.Calls.{set_is}
+use Rattle.history.proofs.Calls.{set_enters}
 use Rattle.history.proofs.ledgers.set.Goals as goal
 
 pub returns : goal.returns
-returns c = set_is _ _ _ _ _ c.set-changed.ensures
+returns c = set_enters _ _ _ _ c.set.ensures
