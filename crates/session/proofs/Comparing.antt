@@ -12,7 +12,7 @@ use Rattle.map.specs.Map.{writable_of}
 use Rattle.replies.specs.declared.Reply.{Reply}
 use Rattle.replies.specs.declared.Reply.TheVariants.{Bad, Same, Differs}
 use Rattle.session.specs.declared.Session.{Session}
-use Rattle.session.specs.Run.{chip_differs, compare_from, compared}
+use Rattle.session.specs.Run.{chip_differs, compare_from}
 
 pub differs_same : (m a held asked : ℕ) → held ≡ asked → false ≡ chip_differs m a held asked
 unfolding chip_differs
@@ -51,11 +51,3 @@ module _ (m : ℕ) (x y : List ℕ) where
   compare_all a h w =
       let none : 908 - a ≡ 0 = omega arith in
       sym (rw none refl) ∙ w
-
-pub compared_void : (s : Session) → s.valid ≡ false → Bad ≡ compared s
-unfolding compared
-compared_void s v = rw v refl
-
-pub compared_valid : (s : Session) (r : Reply) → s.valid ≡ true → r ≡ compare_from s.ledger.member s.world.chip.registers s.ledger.bytes 0 908 → r ≡ compared s
-unfolding compared
-compared_valid s r v e = rw v e

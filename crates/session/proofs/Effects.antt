@@ -2,6 +2,7 @@
 -- Assumes nothing.
 use mathlib.Core.Path.{◌≡◌, refl, ap, subst, ◌∙◌}
 use mathlib.Core.Bool.{Bool, true, false}
+use Rattle.std.specs.Prelude.{Option, Some, None}
 use mathlib.Core.List.{List, [], ◌∷◌, ◌++◌}
 use Prim.Native.Nat.{ℕ, ◌≤◌}
 use native.Mathlib.Omega.{arith}
@@ -43,7 +44,7 @@ use Rattle.replies.specs.declared.Reply.{Reply}
 use Rattle.replies.specs.declared.Reply.TheVariants.{Bad, Numbers, Lent, Bytes, Same, Differs, Free, Locked}
 use Rattle.session.specs.declared.Session.{Session}
 use Rattle.session.specs.declared.outcomes.Outcome.{Outcome}
-use Rattle.session.specs.Run.{Effect, Does, Plain, Words, answered, numbered, opened_session, open_effect, step_effect, told, call_effect, faults_effect, shown_bytes, pending_numbers, effect_of}
+use Rattle.session.specs.Run.{Effect, Does, Plain, Words, answered, numbered, opened_session, open_effect, step_effect, enters, told, call_effect, faults_effect, shown_bytes, pending_numbers, effect_of}
 use Rattle.session.proofs.Buffers.{whole}
 
 pub plain_words : (r : Reply) → Plain r → Words r
@@ -59,18 +60,13 @@ plain_words Locked p = omega arith
 
 -- ---- `open`
 
-pub opened_is : (m b p : ℕ) (x : Changed) (y : Opened) (g : Ledger) → x ≡ open_of m b p → y ≡ at_reset_of m b p → g ≡ opened_ledger m →
-    ◌≡◌ {A = Session} (record { world = record { host = x.host; chip = y.chip }; ledger = g; valid = true }) (opened_session m b p)
-unfolding opened_session
-opened_is m b p x y g ex ey eg = rw (ex, ey, eg) refl
-
 pub open_accepted : (s t : Session) (m b p : ℕ) (a : Answer) → a ≡ open_answer m b p → a ≡ Accepted → t ≡ opened_session m b p → open_effect s m b p ≡ numbered a t
 unfolding open_effect opens
 open_accepted s t m b p a ea et es = rw (← ea, et, es) refl
 
-pub open_refused : (s : Session) (m b p : ℕ) (a : Answer) (x : Refusal) → a ≡ open_answer m b p → a ≡ Refused x → open_effect s m b p ≡ numbered a s
+pub open_refused : (s t : Session) (m b p : ℕ) (a : Answer) (x : Refusal) → a ≡ open_answer m b p → a ≡ Refused x → t ≡ s → open_effect s m b p ≡ numbered a t
 unfolding open_effect opens
-open_refused s m b p a x ea et = rw (← ea, et) refl
+open_refused s t m b p a x ea et es = rw (← ea, et, es) refl
 
 -- ---- a part of the buffer is lent, and the rest stands behind it
 
@@ -82,25 +78,29 @@ does_front r x y e d = record {
 }
 
 -- the ledger may be told of the lent bytes after the call: a setting leaves them, and of the others it takes no byte
-told_after : (w : World) (g : Ledger) (q : Request) (lent : List ℕ) (locked : Bool) →
-    entered_of g (told_of q (step_of w q lent).lent locked) ≡ entered_of g (told_of q lent locked)
+told_after : (w : World) (g : Option Ledger) (q : Request) (lent : List ℕ) (locked : Bool) →
+    enters (told_of q (step_of w q lent).lent locked) g ≡ enters (told_of q lent locked) g
 unfolding entered_of
-told_after w g (Set q) lent locked = refl
-told_after w g Reset lent locked = refl
-told_after w g PowerLost lent locked = refl
-told_after w g Update lent locked = refl
-told_after w g Lock lent locked = refl
+told_after w None q lent locked = refl
+told_after w (Some g) q lent locked = ap Some (same q)
+  where
+    same : (q : Request) → entered_of g (told_of q (step_of w q lent).lent locked) ≡ entered_of g (told_of q lent locked)
+    same (Set q) = refl
+    same Reset = refl
+    same PowerLost = refl
+    same Update = refl
+    same Lock = refl
 
 -- a call on the bytes that are lent: old before it, new after it
-pub call_does : (s : Session) (q : Request) (lent : lents.Lent) (old new : List ℕ) (x : Stepped) (locked : Bool) (g : Ledger) (r : Outcome) →
-    leaving x new ≡ step_of s.world q old → locked ≡ answers_locked x.answer → g ≡ entered_of s.ledger (told_of q new locked) →
+pub call_does : (s : Session) (q : Request) (lent : lents.Lent) (old new : List ℕ) (x : Stepped) (locked : Bool) (g : Option Ledger) (r : Outcome) →
+    leaving x new ≡ step_of s.world q old → locked ≡ answers_locked x.answer → g ≡ enters (told_of q new locked) s.ledger →
     ((b : List ℕ) → length new ≤ length b →
-    Does r b (step_effect (record { world = s.world; ledger = g; valid = s.valid }) lent (leaving x (take (length new) b)))) →
+    Does r b (step_effect (record { world = s.world; ledger = g }) lent (leaving x (take (length new) b)))) →
     Does r new (call_effect s q lent old)
 unfolding call_effect told
 call_does s q lent old new x locked g r ex el eg d =
     let after : new ≡ (step_of s.world q old).lent = ap (λ (y : Step). y.lent) ex in
-    let entering : List ℕ → Ledger = λ l. entered_of s.ledger (told_of q l locked) in
+    let entering : List ℕ → Option Ledger = λ l. enters (told_of q l locked) s.ledger in
     let entered : g ≡ entering old = eg ∙ ap entering after ∙ told_after s.world s.ledger q old locked in
     rw (← ex, ← el, ← entered) (rw (take-length new) at (d new (omega arith)))
 

@@ -1,7 +1,7 @@
 -- What `check` says of the chip and the ledger: `same` where every writable register is the ledger's, 38Bh included, and otherwise the
 -- lowest one that is not. It says one of the two wherever the ledger is not void (`check_says`), so that the laws fix its answer.
 -- Assumes nothing.
-use Rattle.std.specs.Prelude.{◌≡◌, Bool, cond, not, ◌&&◌, List, eqb, get_or}
+use Rattle.std.specs.Prelude.{◌≡◌, Bool, cond, not, ◌&&◌, Option, Some, None, List, eqb, get_or}
 use Rattle.std.proofs.Math.Path.{refl, ap, subst}
 use Rattle.std.proofs.Common.{sym, ◌∙◌, eq-eqb, eqb-true}
 use Rattle.std.proofs.Math.Bool.{true, false}
@@ -10,10 +10,11 @@ use Prim.Native.Nat.{ℕ, zero, suc, ◌+◌, ◌≤◌, ◌<◌}
 use Rattle.std.proofs.Math.Decide.{ℕ_discrete}
 use native.Mathlib.Omega.{arith}
 use Rattle.map.specs.Map.{writable_of}
+use Rattle.history.specs.declared.Ledger.{Ledger}
 use Rattle.replies.specs.declared.Reply.{Reply}
 use Rattle.replies.specs.declared.Reply.TheVariants.{Bad, Numbers, Lent, Bytes, Same, Differs, Free, Locked}
 use Rattle.session.specs.declared.Session.{Session}
-use Rattle.session.specs.Run.{Plain, chip_differs, compare_from, compared}
+use Rattle.session.specs.Run.{Plain, chip_differs, compare_from, compare, compared}
 
 -- ---- one address
 
@@ -134,43 +135,37 @@ module _ (m : ℕ) (x y : List ℕ) where
 
 -- ---- `check`
 
-module _ (s : Session) where
+module _ (s : Session) (g : Ledger) (is : s.ledger ≡ Some g) where
   -- the ledger's member, the chip's registers and the ledger's bytes
   abbrev m : ℕ
-  m = s.ledger.member
+  m = g.member
 
   abbrev x : List ℕ
   x = s.world.chip.registers
 
   abbrev y : List ℕ
-  y = s.ledger.bytes
+  y = g.bytes
 
-  bad_said : (b : Bool) (r q : Reply) → (q ≡ Bad → ⊥) → cond b r Bad ≡ q → r ≡ q
-  bad_said true r q n e = e
-  bad_said false r q n e = absurd (n (sym e))
+  compared_is : compared s ≡ compare_from m x y 0 908
+  unfolding compared
+  compared_is = ap (compare x) is
 
   -- "compares every writable register of the chip model with the ledger"
   pub check_same : compared s ≡ Same → (a : ℕ) → a < 908 → writable_of m a ≡ true → get_or x a 0 ≡ get_or y a 0
-  unfolding compared
-  check_same e a h =
-      same_from m x y 908 0 (bad_said s.valid _ Same (λ q. let z : 0 ≡ 1 = ap named q in absurd (omega arith)) e) a (omega arith) (omega arith)
+  check_same e a h = same_from m x y 908 0 (sym compared_is ∙ e) a (omega arith) (omega arith)
 
   -- "or `differs A` with the lowest differing address"
   pub check_differs : (k : ℕ) → compared s ≡ Differs k → Lowest m x y 0 908 k
-  unfolding compared
-  check_differs k e =
-      differs_from m x y 908 0 k
-      (bad_said s.valid _ (Differs k) (λ q. let z : 2 + k ≡ 1 = ap named q in absurd (omega arith)) e)
+  check_differs k e = differs_from m x y 908 0 k (sym compared_is ∙ e)
 
   -- "`same`, or `differs A`": one of the two, unless the ledger is void
-  pub check_says : s.valid ≡ true → Says m x y (compared s)
-  unfolding compared
-  check_says e = rw e (says_from m x y 908 0)
+  pub check_says : Says m x y (compared s)
+  check_says = rw compared_is (says_from m x y 908 0)
 
-  -- "`check` then prints `?` until the next accepted `open`"
-  pub check_void : s.valid ≡ false → compared s ≡ Bad
-  unfolding compared
-  check_void e = rw e refl
+-- "`check` then prints `?` until the next accepted `open`"
+pub check_void : (s : Session) → s.ledger ≡ None → compared s ≡ Bad
+unfolding compared
+check_void s e = ap (compare s.world.chip.registers) e
 
 -- what it prints has no numbers of an answer
 plain_from : (m : ℕ) (x y : List ℕ) (n a : ℕ) → Plain (compare_from m x y a n)
@@ -184,9 +179,8 @@ plain_from m x y (suc n) a = go (chip_differs m a (get_or x a 0) (get_or y a 0))
 
 pub compared_plain : (s : Session) → Plain (compared s)
 unfolding compared Plain
-compared_plain s = go s.valid (plain_from s.ledger.member s.world.chip.registers s.ledger.bytes 908 0)
+compared_plain s = go s.ledger
   where
-    go : (t : Bool) → Plain (compare_from s.ledger.member s.world.chip.registers s.ledger.bytes 0 908) →
-        Plain (cond t (compare_from s.ledger.member s.world.chip.registers s.ledger.bytes 0 908) Bad)
-    go true h = h
-    go false h = omega arith
+    go : (l : Option Ledger) → Plain (compare s.world.chip.registers l)
+    go (Some g) = plain_from g.member s.world.chip.registers g.bytes 908 0
+    go None = omega arith

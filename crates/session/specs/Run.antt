@@ -1,7 +1,7 @@
 -- A line of a script, and all that it does: the table's middle column. s is the session, that is the record and the chip that the
 -- script plays on with their ledger; l the line, b the buffer, of which the first n bytes are lent.
 -- Assumes nothing.
-use Rattle.std.specs.Prelude.{◌≡◌, Bool, true, false, cond, not, ◌&&◌, List, [], ◌∷◌, ℕ, zero, suc, ◌^◌, ◌≤◌, ◌<◌, eqb, length, get_or, take, set}
+use Rattle.std.specs.Prelude.{◌≡◌, Bool, true, false, cond, not, ◌&&◌, List, [], ◌∷◌, Option, Some, None, ℕ, zero, suc, ◌^◌, ◌≤◌, ◌<◌, eqb, length, get_or, take, set}
 use Rattle.map.specs.Map.{writable_of}
 use Rattle.map.specs.declared.refusals.Answer.{Answer}
 use Rattle.map.specs.declared.refusals.Answer.TheVariants.{Accepted}
@@ -19,7 +19,8 @@ use Rattle.chip.specs.Chip.{chip_of, feed_of}
 use Rattle.faults.specs.Faults.{answer_numbers, faults_answer, faults_result}
 use Rattle.history.specs.declared.World.{World}
 use Rattle.history.specs.Step.{Step, call_numbers, answers_locked, step_of, clear_step}
-use Rattle.history.specs.Ledger.{told_of, opened_ledger, entered_of}
+use Rattle.history.specs.declared.Ledger.{Ledger}
+use Rattle.history.specs.Ledger.{Told, told_of, opened_ledger, entered_of}
 use Rattle.history.specs.History.{start}
 use Rattle.script.specs.declared.command.Command.{Command}
 use Rattle.script.specs.declared.command.Command.TheVariants as commands
@@ -94,7 +95,7 @@ numbered answer s = alone (Numbers (numbers_of (answer_number answer ∷ []))) s
 
 -- "the host record is the new one and the chip model is at reset values of that member, bus, pins"
 unfoldable pub opened_session : ℕ → ℕ → ℕ → Session
-opened_session m bus p = record { world = start m bus p; ledger = opened_ledger m; valid = true }
+opened_session m bus p = record { world = start m bus p; ledger = Some (opened_ledger m) }
 
 -- "on acceptance .. a refusal leaves the script's record and chip as they were"
 unfoldable pub open_effect : Session → ℕ → ℕ → ℕ → Effect
@@ -104,15 +105,20 @@ open_effect s m bus p = numbered (open_answer m bus p) (cond (opens m bus p) (op
 
 -- "It runs the real calls on host records and chip models": both are the call's, the ledger stays
 unfoldable pub with_world : Session → World → Session
-with_world s w = record { world = w; ledger = s.ledger; valid = s.valid }
+with_world s w = record { world = w; ledger = s.ledger }
 
 -- any call: what it answers, and the record and the chip after it. "An Update, Reset or Clear prints its own answer"
 unfoldable pub step_effect : Session → lents.Lent → Step → Effect
 step_effect s lent x = answered lent (call_numbers x.answer) x.lent (with_world s x.world)
 
+-- a void ledger stays void
+abbrev pub enters : Told → Option Ledger → Option Ledger
+enters x (Some g) = Some (entered_of g x)
+enters x None = None
+
 -- "the ledger of the accepted settings" is told of a call of the list of demand 3, and Q-5: it "is told of each 17, of no other answer"
 unfoldable pub told : Session → Request → List ℕ → Bool → Session
-told s q bytes locked = record { world = s.world; ledger = entered_of s.ledger (told_of q bytes locked); valid = s.valid }
+told s q bytes locked = record { world = s.world; ledger = enters (told_of q bytes locked) s.ledger }
 
 -- what is lent to it: nothing, the bytes of a word, or a buffer of so many
 unfoldable pub lent_of : lents.Lent → List ℕ → List ℕ → List ℕ
@@ -180,8 +186,8 @@ unfoldable pub with_entry : World → Entry → ℕ → World
 with_entry w e v = record { host = record_of (header_with w.host.header e v) w.host.settings w.host.image; chip = chip_with w.chip e v }
 
 -- "`poke` and `header` void the ledger"
-unfoldable pub behind_back : Session → World → Effect
-behind_back s w = numbered Accepted (record { world = w; ledger = s.ledger; valid = false })
+unfoldable pub behind_back : World → Effect
+behind_back w = numbered Accepted (record { world = w; ledger = None })
 
 -- ---- `check`
 
@@ -196,9 +202,18 @@ compare_from m registers ledger a zero = Same
 compare_from m registers ledger a (suc n) =
     elim (chip_differs m a (get_or registers a 0) (get_or ledger a 0)) [ true ↦ Differs a | false ↦ compare_from m registers ledger (suc a) n ]
 
+-- the reply to the first address that differs, of pairs of the bytes that chip and ledger have there
+abbrev pub reply_of : Option (ℕ × (ℕ × ℕ)) → Reply
+reply_of (Some p) = Differs p.0
+reply_of None = Same
+
 -- "`check` then prints `?` until the next accepted `open`"
+abbrev pub compare : List ℕ → Option Ledger → Reply
+compare registers (Some g) = compare_from g.member registers g.bytes 0 908
+compare registers None = Bad
+
 unfoldable pub compared : Session → Reply
-compared s = cond s.valid (compare_from s.ledger.member s.world.chip.registers s.ledger.bytes 0 908) Bad
+compared s = compare s.world.chip.registers s.ledger
 
 -- ---- `pending`
 
@@ -227,8 +242,8 @@ effect_of s (commands.Clear n) l b = step_effect s (Room n) (clear_step s.world 
 effect_of s (commands.Feed k) l b = feed_effect s (bytes_of (word_at l k))
 effect_of s (commands.Faults k n) l b = faults_effect s (bytes_of (word_at l k)) (take n b)
 effect_of s (commands.Show p) l b = shown_bytes s (part_bytes s.world p)
-effect_of s (commands.Poke p a v) l b = behind_back s (poked s.world p a v)
-effect_of s (commands.Header e v) l b = behind_back s (with_entry s.world e v)
+effect_of s (commands.Poke p a v) l b = behind_back (poked s.world p a v)
+effect_of s (commands.Header e v) l b = behind_back (with_entry s.world e v)
 effect_of s commands.Check l b = alone (compared s) s
 effect_of s commands.Pending l b = pending_effect s
 effect_of s commands.Marks l b = alone (marks_reply s.world.host.header) s

@@ -11,38 +11,38 @@ use map::Answer;
 use script::{Entry, Part};
 
 // The ledger says nothing any more.
-fn put(mut session: Session, world: World) -> Outcome
-    ensures { (buffer : List ℕ) → Does result buffer (behind_back session world) }
+#[tactic(auto, unfolding(crate::specs::Run::behind_back))]
+fn put(world: World) -> Outcome
+    ensures { (buffer : List ℕ) → Does result buffer (behind_back world) }
 {
-    session.world = world;
-    session.valid = false;
+    let session = Session {
+        world,
+        ledger: None,
+    };
     numbered(Answer::Accepted, session)
 }
 
-fn poked(world: World, part: Part, address: usize, value: u8) -> World
+#[tactic(auto, unfolding(crate::specs::Run::poked))]
+fn poked(mut world: World, part: Part, address: usize, value: u8) -> World
     requires { address < 908 }
     ensures { result ≡ poked world part address value }
 {
-    let mut host = world.host;
-    let mut chip = world.chip;
     match part {
-        Part::Settings => host.settings[address] = value,
-        Part::Image => host.image[address] = value,
-        Part::Chip => chip.registers[address] = value,
+        Part::Settings => world.host.settings[address] = value,
+        Part::Image => world.host.image[address] = value,
+        Part::Chip => world.chip.registers[address] = value,
     }
-    World {
-        host: host,
-        chip: chip,
-    }
+    world
 }
 
 pub(crate) fn poke(session: Session, part: Part, address: usize, value: usize) -> Outcome
     requires { (address < 908) × (value < 256) }
-    ensures { (buffer : List ℕ) → Does result buffer (behind_back session (poked session.world part address value)) }
+    ensures { (buffer : List ℕ) → Does result buffer (behind_back (poked session.world part address value)) }
 {
-    put(session, poked(session.world, part, address, value as u8))
+    put(poked(session.world, part, address, value as u8))
 }
 
+#[tactic(auto, unfolding(crate::specs::Run::header_with))]
 fn header_with(mut header: Header, entry: Entry, value: u8) -> Header
     ensures { result ≡ header_with header entry value }
 {
@@ -55,6 +55,7 @@ fn header_with(mut header: Header, entry: Entry, value: u8) -> Header
     header
 }
 
+#[tactic(auto, unfolding(crate::specs::Run::chip_with))]
 fn chip_with(mut chip: Chip, entry: Entry, value: u8) -> Chip
     ensures { result ≡ chip_with chip entry value }
 {
@@ -67,20 +68,18 @@ fn chip_with(mut chip: Chip, entry: Entry, value: u8) -> Chip
     chip
 }
 
-fn with_entry(world: World, entry: Entry, value: u8) -> World
+#[tactic(auto, unfolding(crate::specs::Run::with_entry))]
+fn with_entry(mut world: World, entry: Entry, value: u8) -> World
     ensures { result ≡ with_entry world entry value }
 {
-    let mut host = world.host;
-    host.header = header_with(host.header, entry, value);
-    World {
-        host: host,
-        chip: chip_with(world.chip, entry, value),
-    }
+    world.host.header = header_with(world.host.header, entry, value);
+    world.chip = chip_with(world.chip, entry, value);
+    world
 }
 
 pub(crate) fn header(session: Session, entry: Entry, value: usize) -> Outcome
     requires { value < 256 }
-    ensures { (buffer : List ℕ) → Does result buffer (behind_back session (with_entry session.world entry value)) }
+    ensures { (buffer : List ℕ) → Does result buffer (behind_back (with_entry session.world entry value)) }
 {
-    put(session, with_entry(session.world, entry, value as u8))
+    put(with_entry(session.world, entry, value as u8))
 }

@@ -34,13 +34,15 @@ fn lend(line: &[u8], lent: Lent, buffer: &mut [u8]) -> usize
 }
 
 // What a call answered, and the session after it; `room` is how many bytes it was lent.
-fn stepped(mut session: Session, stepped: Stepped, lent: Lent, room: usize) -> Outcome
+#[tactic(auto, unfolding(crate::specs::Run::with_world, crate::specs::Run::step_effect))]
+fn stepped(session: Session, stepped: Stepped, lent: Lent, room: usize) -> Outcome
     ensures { (buffer : List ℕ) → room ≤ length buffer → Does result buffer (step_effect session lent (leaving stepped (take room buffer))) }
 {
-    let answer = stepped.answer;
-    let world = stepped.world;
-    session.world = world;
-    answered(lent, history::call_numbers(answer), room, session)
+    let after = Session {
+        world: stepped.world,
+        ..session
+    };
+    answered(lent, history::call_numbers(stepped.answer), room, after)
 }
 
 // A call on the bytes that are lent; the ledger is told of it, and whether it was answered 17. A setting leaves the bytes as they were lent,
@@ -49,9 +51,8 @@ fn call_on(mut session: Session, request: Request, lent: Lent, bytes: &mut [u8])
     ensures { Does result bytes.new (call_effect session request lent bytes.old) }
 {
     let after = history::step(session.world, request, bytes);
-    let answer = after.answer;
-    let locked = history::answers_locked(answer);
-    session.ledger = history::enter(session.ledger, request, bytes, locked);
+    let locked = history::answers_locked(after.answer);
+    session.ledger = session.ledger.map(|ledger| history::enter(ledger, request, bytes, locked));
     stepped(session, after, lent, bytes.len())
 }
 
@@ -82,13 +83,9 @@ pub(crate) fn feed(mut session: Session, line: &[u8], word: usize, buffer: &mut 
     ensures { Does result buffer.new (feed_effect session (bytes_of (word_at line.now word))) }
 {
     let n = decode(line, word, buffer);
-    let mut world = session.world;
-    let fed = chip::feed(world.chip, &buffer[..n]);
-    let answer = fed.answer;
-    let chip = fed.chip;
-    world.chip = chip;
-    session.world = world;
-    numbered(answer, session)
+    let fed = chip::feed(session.world.chip, &buffer[..n]);
+    session.world.chip = fed.chip;
+    numbered(fed.answer, session)
 }
 
 // The byte string goes to a buffer of its own, the result to the one that is shown.

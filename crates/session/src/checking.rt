@@ -1,42 +1,48 @@
 // `check`: the chip against the ledger.
 ghost use Rattle.std.specs.Prelude.{◌≡◌, List, ℕ};
-ghost use Rattle.session.specs.Run.{Does, alone, chip_differs, compare_from, compared};
+ghost use Rattle.std.specs.Prelude.{find};
+ghost use Rattle.std.specs.List.{enumerate_from, zip};
+ghost use Rattle.session.specs.Run.{Does, alone, chip_differs, reply_of, compared};
 
 use crate::Session;
 use crate::outcomes::{Outcome, alone};
 use replies::Reply;
 
 // Whether a register holds another byte than the ledger asks for: one that no setting can write is not compared.
+#[tactic(auto, unfolding(crate::specs::Run::chip_differs))]
 fn chip_differs(member: usize, address: usize, held: u8, asked: u8) -> bool
     ensures { result ≡ chip_differs member address held asked }
 {
-    if held == asked {
-        return false;
-    }
-    map::writable(member, address)
+    held != asked && map::writable(member, address)
 }
 
 // The lowest address at which chip and ledger differ.
-fn difference<'a>(member: usize, registers: &'a [u8; 908], ledger: &'a [u8; 908]) -> Reply
-    ensures { result ≡ compare_from member registers.now ledger.now 0 908 }
+fn difference(member: usize, registers: &[u8; 908], ledger: &[u8; 908]) -> Reply
+    ensures { result ≡ reply_of (find (λ p. chip_differs member p.0 p.1.0 p.1.1) (enumerate_from 0 (zip registers.now ledger.now))) }
 {
-    for address in 0..908 {
-        if chip_differs(member, address, registers[address], ledger[address]) {
-            return Reply::Differs(address);
-        }
+    let found = registers
+        .iter()
+        .zip(ledger)
+        .enumerate()
+        .find(|(address, (held, asked))| chip_differs(member, *address, **held, **asked));
+    match found {
+        Some((address, _)) => Reply::Differs(address),
+        None => Reply::Same,
     }
-    Reply::Same
 }
 
+#[tactic(auto, unfolding(crate::specs::Run::compared))]
 fn compared(session: Session) -> Reply
     ensures { result ≡ compared session }
 {
-    if !session.valid {
-        return Reply::Bad;
+    match session.ledger {
+        Some(ledger) => difference(
+            ledger.member as usize,
+            &session.world.chip.registers,
+            &ledger.bytes,
+        ),
+        None => Reply::Bad,
     }
-    let ledger = session.ledger;
-    let world = session.world;
-    difference(ledger.member as usize, &world.chip.registers, &ledger.bytes)
 }
 
 pub(crate) fn check(session: Session) -> Outcome

@@ -26,13 +26,12 @@ pub use outcomes::Outcome;
 // The longest buffer that is lent. It holds the byte string of any line too.
 pub const ROOM: usize = 8192;
 
-// The record and the chip that the script plays on, and the ledger of the accepted settings. The ledger says nothing once a
-// byte was put behind the calls' back.
+// The record and the chip that the script plays on, and the ledger of the accepted settings: None once a byte was put behind the calls'
+// back.
 #[derive(Clone, Copy)]
 pub struct Session {
     pub world: World,
-    pub ledger: Ledger,
-    pub valid: bool,
+    pub ledger: Option<Ledger>,
 }
 
 // Before the first accepted `open`.

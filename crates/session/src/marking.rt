@@ -7,13 +7,15 @@ use crate::outcomes::{Outcome, alone};
 use host::Header;
 use replies::Reply;
 
+#[tactic(auto, unfolding(crate::specs::Run::marks_reply))]
 fn marks_reply(header: Header) -> Reply
     ensures { result ≡ marks_reply header }
 {
     if host::is_locked(header) {
-        return Reply::Locked;
+        Reply::Locked
+    } else {
+        Reply::Free
     }
-    Reply::Free
 }
 
 pub(crate) fn marks(session: Session) -> Outcome

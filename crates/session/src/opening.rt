@@ -7,31 +7,27 @@ use crate::outcomes::{Outcome, numbered};
 use history::World;
 use map::Answer;
 
+#[tactic(auto, unfolding(crate::specs::Run::opened_session))]
 pub(crate) fn opened(member: usize, bus: usize, pins: usize) -> Session
     ensures { result ≡ opened_session member bus pins }
 {
-    let changed = host::open(member, bus, pins);
-    let host = changed.host;
-    let given = chip::at_reset(member, bus, pins);
-    let chip = given.chip;
-    let world = World {
-        host: host,
-        chip: chip,
-    };
     Session {
-        world: world,
-        ledger: history::opened_ledger(member),
-        valid: true,
+        world: World {
+            host: host::open(member, bus, pins).host,
+            chip: chip::at_reset(member, bus, pins).chip,
+        },
+        ledger: Some(history::opened_ledger(member)),
     }
 }
 
+#[tactic(auto, unfolding(crate::specs::Run::open_effect))]
 pub(crate) fn open(session: Session, member: usize, bus: usize, pins: usize) -> Outcome
     ensures { (buffer : List ℕ) → Does result buffer (open_effect session member bus pins) }
 {
     let answer = map::open_answer(member, bus, pins);
-    let fresh = opened(member, bus, pins);
-    match answer {
-        Answer::Accepted => numbered(answer, fresh),
-        Answer::Refused(_) => numbered(answer, session),
-    }
+    let after = match answer {
+        Answer::Accepted => opened(member, bus, pins),
+        Answer::Refused(_) => session,
+    };
+    numbered(answer, after)
 }

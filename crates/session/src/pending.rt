@@ -17,15 +17,13 @@ const LIST: usize = 1174;
 fn pending_numbers(host: Record) -> Numbers
     ensures { result ≡ numbers_of (pending_numbers host) }
 {
-    let mut list = [0u8; LIST];
-    let updated = update::update(host, &mut list);
-    let answer = updated.answer;
-    let ListAnswer::Listed { n, t } = answer else {
-        return map::number_alone(map::refusal_number(Refusal::Unsound) as usize);
-    };
-    map::with_value(n, t)
+    match update::update(host, &mut [0; LIST]).answer {
+        ListAnswer::Listed { n, t } => map::with_value(n, t),
+        ListAnswer::Short { needed: _ } | ListAnswer::Refused(_) => map::number_alone(map::refusal_number(Refusal::Unsound) as usize),
+    }
 }
 
+#[tactic(auto, unfolding(crate::specs::Run::answered, crate::specs::Run::pending_effect))]
 pub(crate) fn pending(session: Session) -> Outcome
     ensures { (buffer : List ℕ) → Does result buffer (pending_effect session) }
 {

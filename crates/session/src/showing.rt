@@ -8,13 +8,14 @@ use history::World;
 use replies::Reply;
 use script::Part;
 
-fn bytes_of(world: World, part: Part) -> [u8; 908]
-    ensures { result ≡ part_bytes world part }
+#[tactic(auto, unfolding(crate::specs::Run::part_bytes))]
+fn bytes_of(world: &World, part: Part) -> &[u8; 908]
+    ensures { result.now ≡ part_bytes world.now part }
 {
     match part {
-        Part::Settings => world.host.settings,
-        Part::Image => world.host.image,
-        Part::Chip => world.chip.registers,
+        Part::Settings => &world.host.settings,
+        Part::Image => &world.host.image,
+        Part::Chip => &world.chip.registers,
     }
 }
 
@@ -22,10 +23,9 @@ pub(crate) fn show(session: Session, part: Part, buffer: &mut [u8]) -> Outcome
     requires { length buffer.old ≡ 8192 }
     ensures { Does result buffer.new (shown_bytes session (part_bytes session.world part)) }
 {
-    let bytes = bytes_of(session.world, part);
     Outcome {
         reply: Reply::Bytes,
-        shown: text::put_text(buffer, 0, &bytes),
-        session: session,
+        shown: text::put_text(buffer, 0, bytes_of(&session.world, part)),
+        session,
     }
 }

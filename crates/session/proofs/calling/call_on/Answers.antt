@@ -4,4 +4,4 @@ use Rattle.session.proofs.Effects.{call_does}
 use Rattle.session.proofs.calling.call_on.Goals as goal
 
 pub returns : goal.returns
-returns c = call_does _ _ _ _ _ _ _ _ _ c.step-after.ensures c.answers_locked-locked.ensures c.enter-session.ensures c.stepped.ensures
+returns c = let h = c.map-session.ensures.cases in ?

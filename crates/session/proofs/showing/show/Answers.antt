@@ -5,4 +5,4 @@ use borrow.Author.Rules.{rules}
 use Rattle.session.proofs.showing.show.Goals as goal
 
 pub returns : goal.returns
-returns c = rw (← c.bytes_of-bytes.ensures) (shown_does _ _ _ _ _ (search rules) c.requires c.put_text.auto.text c.put_text.ensures)
+returns c = rw (← c.bytes_of.ensures) (shown_does _ _ _ _ _ (search rules) c.requires c.put_text.auto.text c.put_text.ensures)
