@@ -13,9 +13,7 @@ use Rattle.host.specs.declared.Record.{Record}
 use Rattle.host.specs.Record.{header_of, record_of, free, sound_of, open_of}
 use Rattle.host.specs.LockLaws.{free_marks}
 use Rattle.host.proofs.SoundLaws.{Sound, sound_is}
-use Rattle.update.specs.declared.ListAnswer.{ListAnswer}
-use Rattle.update.specs.declared.ListAnswer.TheVariants.{Listed}
-use Rattle.update.specs.Update.{over, send_answer, resetting}
+use Rattle.update.specs.Update.{ListAnswer, listed, over, send_answer, resetting}
 use Rattle.update.specs.SendLaws.{Answered, answered, list_is, host_is, answer_of, send_listed}
 use Rattle.chip.specs.declared.Chip.{Chip}
 use Rattle.chip.specs.declared.Fed.{Fed}
@@ -47,7 +45,7 @@ module _ (m b p marks : ℕ) (s image registers : List ℕ) (chip_sound : Rattle
   abbrev writes : List Burst
   writes = (resetting host).writes
 
-  answer : send_answer host (resetting host) (length buffer) ≡ Listed n t
+  answer : send_answer host (resetting host) (length buffer) ≡ listed n t
   answer = sym (answer_of host (resetting host) (length buffer)) ∙ ap list_of e
 
   sizes : Answered host (resetting host) (length buffer) n t

@@ -1,11 +1,10 @@
 -- Demand 3 is met: `whole_lists`. And an Update at once after an accepted one has nothing to send: `second_update`.
 -- Assumes nothing.
-use Rattle.std.specs.Prelude.{◌≡◌, Bool, cond, ℕ, ◌-◌, ◌*◌, ◌≤◌, leb, length}
+use Rattle.std.specs.Prelude.{◌≡◌, Bool, cond, ℕ, ◌-◌, ◌*◌, ◌≤◌, leb, length, Ok}
 use Rattle.std.proofs.Math.Path.{refl, sym, ap}
 use Rattle.std.proofs.Common.{ap₂, ◌∙◌, subst, arith}
 use Rattle.std.proofs.Math.Bool.{true, false}
 use mathlib.Core.List.{List, [], ◌∷◌, map}
-use Rattle.map.specs.declared.refusals.Answer.TheVariants.{Accepted}
 use Rattle.map.specs.declared.refusals.Refusal.TheVariants.{Unsound}
 use Rattle.map.specs.Refusals.{accepted, opens}
 use Rattle.map.specs.RefusalLaws.{opens_pins}
@@ -24,9 +23,7 @@ use Rattle.host.specs.declared.Record.{Record}
 use Rattle.host.specs.Record.{header_of, sound_of, lock_keeps, may_write, open_of}
 use Rattle.host.specs.RecordLaws.{may_writable, writable_may, not_locked}
 use Rattle.host.specs.LockLaws.{kept_same}
-use Rattle.update.specs.declared.ListAnswer.{ListAnswer}
-use Rattle.update.specs.declared.ListAnswer.TheVariants.{Listed, Short, Refused}
-use Rattle.update.specs.Update.{over, send_answer, send_of, writes_of, updating, update_of}
+use Rattle.update.specs.Update.{ListAnswer, listed, short, refused, over, send_answer, send_of, writes_of, updating, update_of}
 use Rattle.update.specs.SendLaws.{Answered, answered, list_is, host_is, answer_of}
 use Rattle.update.specs.BoundLaws.{update_sendable, names_writable}
 use Rattle.update.proofs.StoredLaws.{stored_is}
@@ -48,7 +45,7 @@ use Rattle.demand.proofs.RivalLaws.{all_writes, all_good, all_own}
 
 -- the list's answer of a call that answered one
 abbrev pub list_of : answers.CallAnswer → ListAnswer
-list_of (answers.TheVariants.Setting numbers) = Refused Unsound
+list_of (answers.TheVariants.Setting numbers) = refused Unsound
 list_of (answers.TheVariants.List answer) = answer
 list_of (answers.TheVariants.Update answer stored) = answer
 
@@ -83,7 +80,7 @@ module _ (m b p : ℕ) (o : opens m b p ≡ true) (s : List ℕ) (w : World) (h 
   abbrev after : List ℕ
   after = hear_all m h.registers writes
 
-  fed : feed_of world.chip (encode b p writes) ≡ record { answer = Accepted; chip = chip_of m b p after }
+  fed : feed_of world.chip (encode b p writes) ≡ record { answer = Ok tt; chip = chip_of m b p after }
   fed = update_fed m b p o s w h
 
   -- settings that are on are in the chip: where they may be sent by the update, and at a locked address already before it
@@ -139,7 +136,7 @@ module _ (m b p : ℕ) (o : opens m b p ≡ true) (s : List ℕ) (w : World) (h 
   -- ---- and it answered n and t
 
   module _ (buffer : List ℕ) (n t stored : ℕ) (e : UpdateAnswers world buffer n t stored) where
-    answer : send_answer host (updating host) (length buffer) ≡ Listed n t
+    answer : send_answer host (updating host) (length buffer) ≡ listed n t
     answer = sym (answer_of host (updating host) (length buffer)) ∙ ap list_of e
 
     sizes : Answered host (updating host) (length buffer) n t
@@ -253,7 +250,7 @@ module _ (m b p : ℕ) (o : opens m b p ≡ true) (s : List ℕ) (w : World) (h 
         (subst (λ (x : List ℕ). Owed m b p x earlier (step_of earlier Update buffer).world (update_list earlier buffer n t) n t) (sym ledger_stays)
         (owed u.answers))
 
-    answer_again : (size : ℕ) → (update_of (run w events).host size).answer ≡ cond (leb 4 size) (Listed 0 0) (Short 4)
+    answer_again : (size : ℕ) → (update_of (run w events).host size).answer ≡ cond (leb 4 size) (listed 0 0) (short 4)
     unfolding send_of send_answer
     answer_again size =
         let k : Holds m b p ledger_now (run w events) = run_holds m b p o events s w h in
@@ -283,7 +280,7 @@ whole_lists m b p e events = holds_owes m b p (opened m b p e) (reset_image m) (
 -- A second Update at once sends nothing: its list has no transaction, and asks for 4 bytes of buffer.
 pub second_update : (m b p : ℕ) → accepted (open_of m b p).answer ≡ true → (events before : List Event) (buffer : List ℕ) (n t stored : ℕ) →
     Updates (start m b p) events before [] buffer n t stored → (size : ℕ) →
-    (update_of (world_after m b p events).host size).answer ≡ cond (leb 4 size) (Listed 0 0) (Short 4)
+    (update_of (world_after m b p events).host size).answer ≡ cond (leb 4 size) (listed 0 0) (short 4)
 second_update m b p e events before buffer n t stored u size =
     answer_again m b p (opened m b p e) (reset_image m) (start m b p) (start_holds m b p (opened m b p e)) events before buffer n t stored u size
 

@@ -1,13 +1,12 @@
 -- What holds between a record, its chip and the ledger after every event: one lemma for all settings, one for every call that sends, and
 -- what each such call has to show for it; and one for every beginning of the pending list.
 -- Assumes nothing.
-use Rattle.std.specs.Prelude.{◌≡◌, Bool, true, false, leb, length, take, drop}
+use Rattle.std.specs.Prelude.{◌≡◌, Bool, true, false, leb, length, take, drop, Ok, Err}
 use Rattle.std.proofs.Math.Path.{refl, ap, ap₂, subst}
 use Rattle.std.proofs.Common.{sym, ◌∙◌, true≢false, arith}
 use Rattle.std.proofs.Math.Bool.{cond}
 use mathlib.Core.List.{List, [], ◌∷◌, ◌++◌, map}
 use Prim.Native.Nat.{ℕ, ◌≤◌}
-use Rattle.map.specs.declared.refusals.Answer.TheVariants.{Accepted}
 use Rattle.map.specs.Refusals.{accepted, opens}
 use Rattle.map.specs.RefusalLaws.{opens_member}
 use Rattle.map.specs.Map.{writable_of}
@@ -35,9 +34,7 @@ use Rattle.host.specs.Record.{header_of, record_of, free, locked, lock_keeps, ma
 use Rattle.host.specs.RecordLaws.{may_writable, writable_may, not_locked}
 use Rattle.host.specs.LockLaws.{Marks, free_marks}
 use Rattle.host.proofs.SoundLaws.{Sound, is_sound, setting_sound, lock_sound}
-use Rattle.update.specs.declared.ListAnswer.{ListAnswer}
-use Rattle.update.specs.declared.ListAnswer.TheVariants.{Listed, Short, Refused}
-use Rattle.update.specs.Update.{is_listed, list_size, over, Sending, send_answer, send_of, send_buffer, writes_of, updating, resetting}
+use Rattle.update.specs.Update.{ListAnswer, listed, is_listed, list_size, over, Sending, send_answer, send_of, send_buffer, writes_of, updating, resetting}
 use Rattle.update.specs.UpdateLaws.{enable_byte, image_layout, store_image, store_marks, update_fits}
 use Rattle.update.specs.BoundLaws.{good_data, good_named, bus_most, names_writable}
 use Rattle.chip.specs.declared.Chip.{Chip}
@@ -66,9 +63,8 @@ front b p xs buffer =
 
 -- a chip is fed nothing where no list was written
 not_fed : (answer : ListAnswer) (buffer : List ℕ) (c : Chip) → is_listed answer ≡ false → fed_by answer buffer c ≡ c
-not_fed (Listed n t) buffer c e = absurd (true≢false e)
-not_fed (Short needed) buffer c e = refl
-not_fed (Refused r) buffer c e = refl
+not_fed (Ok l) buffer c e = absurd (true≢false e)
+not_fed (Err x) buffer c e = refl
 
 -- ---- the invariant
 
@@ -195,7 +191,7 @@ module _ (m b p : ℕ) (o : opens m b p ≡ true) where
         }
 
         answer : Bool → ListAnswer
-        answer c = cond c (Listed (length x.writes) (bus_bytes x.writes)) x.short
+        answer c = cond c (listed (length x.writes) (bus_bytes x.writes)) x.short
 
         go : (c : Bool) → Holds m b p s (record {
           host = cond (is_listed (answer c)) x.host host;
@@ -250,7 +246,7 @@ module _ (m b p : ℕ) (o : opens m b p ≡ true) where
           (seen_allows (may_write header) 908 (value_at s) (value_at h.image)))
 
       -- its list, fed to the chip
-      begun_fed : feed_of chip (encode b p xs) ≡ record { answer = Accepted; chip = chip_of m b p (hear_all m h.registers xs) }
+      begun_fed : feed_of chip (encode b p xs) ≡ record { answer = Ok tt; chip = chip_of m b p (hear_all m h.registers xs) }
       begun_fed =
           let ok : PartSendable header xs = begun_sendable in
           let sizes : Sendable xs = record { some = ok.some; short = omega (arith, ok.short) } in
@@ -292,7 +288,7 @@ module _ (m b p : ℕ) (o : opens m b p ≡ true) where
 
     -- Update sends all of it
 
-    pub update_fed : feed_of chip (encode b p (writes_of host)) ≡ record { answer = Accepted; chip = chip_of m b p (hear_all m h.registers (writes_of host)) }
+    pub update_fed : feed_of chip (encode b p (writes_of host)) ≡ record { answer = Ok tt; chip = chip_of m b p (hear_all m h.registers (writes_of host)) }
     update_fed = begun_fed (writes_of host) (begins_whole (writes_of host))
 
     update_follows : Follows (updating host)

@@ -10,8 +10,7 @@ use Rattle.burst.specs.Burst.{burst_of, n_of, t_of, transactions, encode}
 use Rattle.calls.specs.declared.Request.TheVariants.{Update}
 use Rattle.host.specs.declared.Header.{Header}
 use Rattle.host.specs.Record.{may_write, open_of}
-use Rattle.update.specs.declared.ListAnswer.TheVariants.{Listed}
-use Rattle.update.specs.Update.{writes_of}
+use Rattle.update.specs.Update.{listed, writes_of}
 use Rattle.chip.specs.declared.decode.Transaction.TheVariants.{Write}
 use Rattle.chip.specs.Chip.{decode_of, feed_of}
 use Rattle.history.specs.declared.World.{World}
@@ -52,7 +51,7 @@ pub record Rival (m b p : ℕ) (before after : World) (l : List ℕ) : Type 0 wh
 
 -- An Update on the world w, with this buffer, is accepted and answers n, t and how many image bytes it stored;
 abbrev pub UpdateAnswers : World → List ℕ → ℕ → ℕ → ℕ → Type 0
-UpdateAnswers w buffer n t stored = (step_of w Update buffer).answer ≡ answers.TheVariants.Update (Listed n t) stored
+UpdateAnswers w buffer n t stored = (step_of w Update buffer).answer ≡ answers.TheVariants.Update (listed n t) stored
 
 -- and this is the list that it wrote.
 abbrev pub update_list : World → List ℕ → ℕ → ℕ → List ℕ

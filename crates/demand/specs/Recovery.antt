@@ -6,7 +6,7 @@ use Rattle.std.specs.Prelude.{◌≡◌, true, List, ℕ}
 use Rattle.map.specs.Refusals.{accepted}
 use Rattle.calls.specs.declared.Request.TheVariants.{Reset}
 use Rattle.host.specs.Record.{open_of}
-use Rattle.update.specs.declared.ListAnswer.TheVariants.{Listed}
+use Rattle.update.specs.Update.{listed}
 use Rattle.chip.specs.Chip.{chip_of, sound_of}
 use Rattle.history.specs.declared.World.{World}
 use Rattle.history.specs.declared.CallAnswer as answers
@@ -25,7 +25,7 @@ failed m b p events registers = record { host = (world_after m b p events).host;
 
 -- A Reset on the world w, with this buffer, is accepted and answers n and t;
 abbrev pub ResetAnswers : World → List ℕ → ℕ → ℕ → Type 0
-ResetAnswers w buffer n t = (step_of w Reset buffer).answer ≡ answers.TheVariants.List (Listed n t)
+ResetAnswers w buffer n t = (step_of w Reset buffer).answer ≡ answers.TheVariants.List (listed n t)
 
 -- and this is the world once the chip heard its list.
 abbrev pub reset_world : World → List ℕ → World

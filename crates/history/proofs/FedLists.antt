@@ -2,6 +2,7 @@
 -- Assumes nothing.
 use mathlib.Core.Path.{◌≡◌, refl, sym, ap, ap₂, subst, ◌∙◌}
 use mathlib.Core.Bool.{false}
+use Rattle.std.specs.Prelude.{Ok, Err}
 use mathlib.Core.List.{List}
 use Prim.Native.Nat.{ℕ, ◌+◌, ◌*◌, ◌≤◌}
 use native.Mathlib.Omega.{arith}
@@ -9,11 +10,9 @@ use lib.ListN.{length}
 use lib.Seq.{length-take-le}
 use Rattle.calls.specs.declared.Request.TheVariants.{Update}
 use Rattle.host.specs.declared.Record.{Record}
-use Rattle.update.specs.declared.ListAnswer.{ListAnswer}
-use Rattle.update.specs.declared.ListAnswer.TheVariants.{Listed, Short, Refused}
 use Rattle.update.specs.declared.Sent.{Sent}
 use Rattle.update.specs.declared.Updated.{Updated}
-use Rattle.update.specs.Update.{is_listed, Sending, send_answer, send_of, send_buffer, updating, update_of, update_buffer}
+use Rattle.update.specs.Update.{ListAnswer, is_listed, Sending, send_answer, send_of, send_buffer, updating, update_of, update_buffer}
 use Rattle.update.specs.SendLaws.{Answered, answered}
 use Rattle.chip.specs.declared.Chip.{Chip}
 use Rattle.chip.specs.declared.Fed.{Fed}
@@ -29,11 +28,10 @@ unfolding send_of
 send_within r x s size = go (send_answer r x size) refl
   where
     go : (answer : ListAnswer) → send_answer r x size ≡ answer → Within answer size
-    go (Listed n t) e =
-        let a : Answered r x size n t = answered r x s size n t e in
+    go (Ok l) e =
+        let a : Answered r x size l.n l.t = answered r x s size l.n l.t e in
         omega (arith, a.room, a.n_is, a.t_is)
-    go (Short needed) e = tt
-    go (Refused refusal) e = tt
+    go (Err e) f = tt
 
 -- and keeps the buffer's length
 pub within : (x : Record → Sending) (r : Record) → is_listed (x r).short ≡ false → (u : Sent) (old new : ℕ) → u ≡ send_of r (x r) old → new ≡ old →

@@ -1,13 +1,11 @@
 -- What a record makes of a setting is what the ledger makes of it: the settings of a sound record become the ledger's entry, unless a lock
 -- keeps the register, which the record answers with 17. And the ledger as a value of the program is the ledger of what it was told.
 -- Assumes nothing.
-use Rattle.std.specs.Prelude.{◌≡◌, refl, Bool, true, false, cond, not, ◌&&◌, List, [], ◌∷◌, ◌++◌, ℕ, zero, suc, ◌+◌, ◌<◌, leb, eqb}
+use Rattle.std.specs.Prelude.{◌≡◌, refl, Bool, true, false, cond, not, ◌&&◌, List, [], ◌∷◌, ◌++◌, ℕ, zero, suc, ◌+◌, ◌<◌, leb, eqb, Ok, Err}
 use Rattle.std.proofs.Common.{sym, ap, ◌∙◌, subst, lt-ltb}
-use Rattle.map.specs.declared.refusals.Answer.{Answer}
-use Rattle.map.specs.declared.refusals.Answer.TheVariants.{Accepted, Refused}
 use Rattle.map.specs.declared.refusals.Refusal.{Refusal}
 use Rattle.map.specs.declared.refusals.Refusal.TheVariants.{NotWritable, ReservedBit, NoDot, Level, GroupOrState, SceneLength, Unsound, Locked}
-use Rattle.map.specs.Refusals.{refusal_number, answer_number, numbers_of, accepted}
+use Rattle.map.specs.Refusals.{Answer, refusal_number, answer_number, numbers_of, accepted}
 use Rattle.map.specs.Map.{is_dot, writable_of}
 use Rattle.map.specs.Images.{ok_byte, reset_image}
 use Rattle.map.specs.ImageLaws.{Image, ok_image}
@@ -31,7 +29,7 @@ use Rattle.history.specs.Ledger.{register_meets, lamp_meets, field_meets, entry_
 -- ---- tests
 
 -- an answer behind a test is accepted where the test passes and the answer is accepted
-behind : (b : Bool) (answer : Answer) (x : Refusal) → accepted (cond b answer (Refused x)) ≡ (b && accepted answer)
+behind : (b : Bool) (answer : Answer) (x : Refusal) → accepted (cond b answer (Err x)) ≡ (b && accepted answer)
 behind true answer x = refl
 behind false answer x = refl
 
@@ -75,7 +73,7 @@ record Answers (answer : Answer) (meets out : Bool) : Type 0 where
   taken : accepted answer ≡ (meets && not out)
   told : is_seventeen answer ≡ out
 
-register_answers : (w k o : Bool) → Answers (cond w (cond k (Refused Locked) (cond o Accepted (Refused ReservedBit))) (Refused NotWritable)) (w && o) (w && k)
+register_answers : (w k o : Bool) → Answers (cond w (cond k (Err Locked) (cond o (Ok tt) (Err ReservedBit))) (Err NotWritable)) (w && o) (w && k)
 register_answers true true true = record { taken = refl; told = refl }
 register_answers true true false = record { taken = refl; told = refl }
 register_answers true false true = record { taken = refl; told = refl }
@@ -83,14 +81,14 @@ register_answers true false false = record { taken = refl; told = refl }
 register_answers false k o = record { taken = refl; told = refl }
 
 -- the other settings have two tests, a Scene one more before them
-two_tests : (a b : Bool) (x y : Refusal) → is_seventeen (Refused x) ≡ false → is_seventeen (Refused y) ≡ false →
-    Answers (cond a (cond b Accepted (Refused y)) (Refused x)) (a && b) false
+two_tests : (a b : Bool) (x y : Refusal) → is_seventeen (Err x) ≡ false → is_seventeen (Err y) ≡ false →
+    Answers (cond a (cond b (Ok tt) (Err y)) (Err x)) (a && b) false
 two_tests true true x y ex ey = record { taken = refl; told = refl }
 two_tests true false x y ex ey = record { taken = refl; told = ey }
 two_tests false b x y ex ey = record { taken = refl; told = ex }
 
-test_before : (a meets : Bool) (answer : Answer) (x : Refusal) → is_seventeen (Refused x) ≡ false → Answers answer meets false →
-    Answers (cond a answer (Refused x)) (a && meets) false
+test_before : (a meets : Bool) (answer : Answer) (x : Refusal) → is_seventeen (Err x) ≡ false → Answers answer meets false →
+    Answers (cond a answer (Err x)) (a && meets) false
 test_before true meets answer x e s = s
 test_before false meets answer x e s = record { taken = refl; told = e }
 

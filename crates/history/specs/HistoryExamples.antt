@@ -13,8 +13,7 @@ use Rattle.calls.specs.declared.Request.{Request}
 use Rattle.calls.specs.declared.Request.TheVariants.{Set, Reset, PowerLost, Update, Lock}
 use Rattle.host.specs.declared.Record.{Record}
 use Rattle.host.specs.Record.{sound_of, put_setting, lock_of}
-use Rattle.update.specs.declared.ListAnswer.TheVariants as lists
-use Rattle.update.specs.Update.{send_answer, send_of, send_buffer}
+use Rattle.update.specs.Update.{listed, short, send_answer, send_of, send_buffer}
 use Rattle.chip.specs.Chip.{chip_of, feed_answer, selected, decode_of, heard, is_command, lod_clear, lsd_clear, heard_byte, hear_byte, hear_data, hear, apply, apply_all, feed_of}
 use Rattle.history.specs.declared.World.{World}
 use Rattle.history.specs.declared.CallAnswer.{CallAnswer}
@@ -26,9 +25,9 @@ use Rattle.history.specs.Step.{call_numbers, answers_locked, list_in, step_of, c
 call_answers : List CallAnswer
 call_answers =
     answers.Setting (numbers_of (6 ∷ []))
-    ∷ answers.List (lists.Listed 1 3)
-    ∷ answers.Update (lists.Listed 3 9) 3
-    ∷ answers.Update (lists.Short 19) 0
+    ∷ answers.List (listed 1 3)
+    ∷ answers.Update (listed 3 9) 3
+    ∷ answers.Update (short 19) 0
     ∷ []
 
 numbers_and_values : map (λ (x : CallAnswer). numbers_in (call_numbers x)) call_answers
@@ -37,7 +36,7 @@ unfolding call_answers numbers_in numbers_of
 numbers_and_values = refl
 
 -- Q-5: "the ledger is told of each 17, of no other answer": not of 18, of 4, of 0, nor of a list of 17 transactions
-seventeens : map answers_locked (answers.Setting (numbers_of (17 ∷ [])) ∷ answers.Setting (numbers_of (18 ∷ [])) ∷ answers.Setting (numbers_of (4 ∷ [])) ∷ answers.Setting (numbers_of (0 ∷ [])) ∷ answers.List (lists.Listed 17 51) ∷ [])
+seventeens : map answers_locked (answers.Setting (numbers_of (17 ∷ [])) ∷ answers.Setting (numbers_of (18 ∷ [])) ∷ answers.Setting (numbers_of (4 ∷ [])) ∷ answers.Setting (numbers_of (0 ∷ [])) ∷ answers.List (listed 17 51) ∷ [])
     ≡ true ∷ false ∷ false ∷ false ∷ false ∷ []
 unfolding answers_locked numbers_of
 seventeens = refl

@@ -1,7 +1,7 @@
 -- One call on a world, by the promises of the real calls and of Feed: document 01, "The ledger and whole lists". A world is a host's
 -- record, `host`, and its chip; `lent` is the bytes of a scene, or the buffer of a call that writes a list.
 -- Assumes nothing.
-use Rattle.std.specs.Prelude.{Bool, List, ℕ, ◌+◌, ◌*◌, ◌≤◌, eqb, length, take}
+use Rattle.std.specs.Prelude.{Bool, List, ℕ, ◌+◌, ◌*◌, ◌≤◌, eqb, length, take, Ok, Err, get_or}
 use Rattle.map.specs.declared.refusals.Numbers.{Numbers}
 use Rattle.map.specs.declared.refusals.Refusal.TheVariants.{Locked}
 use Rattle.map.specs.Refusals.{refusal_number, numbers_of}
@@ -9,11 +9,9 @@ use Rattle.calls.specs.declared.Request.{Request}
 use Rattle.calls.specs.declared.Request.TheVariants.{Set, Reset, PowerLost, Update, Lock}
 use Rattle.host.specs.declared.Changed.{Changed}
 use Rattle.host.specs.Record.{setting_of, power_lost_of, lock_of}
-use Rattle.update.specs.declared.ListAnswer.{ListAnswer}
-use Rattle.update.specs.declared.ListAnswer.TheVariants.{Listed, Short, Refused}
 use Rattle.update.specs.declared.Sent.{Sent}
 use Rattle.update.specs.declared.Updated.{Updated}
-use Rattle.update.specs.Update.{list_numbers, update_numbers, Sending, send_of, send_buffer, update_of, update_buffer, resetting, clearing}
+use Rattle.update.specs.Update.{ListAnswer, list_numbers, update_numbers, Sending, send_of, send_buffer, update_of, update_buffer, resetting, clearing}
 use Rattle.chip.specs.declared.Chip.{Chip}
 use Rattle.chip.specs.Chip.{feed_of}
 use Rattle.history.specs.declared.World.{World}
@@ -31,7 +29,7 @@ call_numbers (answers.TheVariants.Update answer stored) = numbers_of (update_num
 
 -- Q-5, "each 17": whether an answer is one
 unfoldable pub answers_locked : answers.CallAnswer → Bool
-answers_locked answer = eqb (call_numbers answer).number (refusal_number Locked)
+answers_locked answer = eqb (get_or (call_numbers answer).values 0 0) (refusal_number Locked)
 
 -- ---- What the chip gets
 
@@ -41,15 +39,13 @@ list_in n t buffer = take (4 + 2 * n + t) buffer
 
 -- "The list of an accepted Update or Reset is fed to the chip as soon as it is answered;"
 abbrev pub fed_by : ListAnswer → List ℕ → Chip → Chip
-fed_by (Listed n t) buffer c = (feed_of c (list_in n t buffer)).chip
-fed_by (Short needed) buffer c = c
-fed_by (Refused r) buffer c = c
+fed_by (Ok l) buffer c = (feed_of c (list_in l.n l.t buffer)).chip
+fed_by (Err e) buffer c = c
 
 -- the buffer has all of it
 abbrev pub Within : ListAnswer → ℕ → Type 0
-Within (Listed n t) size = 4 + 2 * n + t ≤ size
-Within (Short needed) size = Unit
-Within (Refused r) size = Unit
+Within (Ok l) size = 4 + 2 * l.n + l.t ≤ size
+Within (Err e) size = Unit
 
 -- ---- A step
 

@@ -4,7 +4,7 @@ ghost use Rattle.history.specs.Step.{Within, fed_by, leaving, list_step, update_
 
 use crate::{CallAnswer, Stepped, World};
 use chip::Chip;
-use update::{ListAnswer, Sent, Updated};
+use update::{ListAnswer, Listed, Sent, Updated};
 
 // The chip after the list that was answered.
 fn fed(answer: ListAnswer, chip: Chip, buffer: &[u8]) -> Chip
@@ -12,8 +12,8 @@ fn fed(answer: ListAnswer, chip: Chip, buffer: &[u8]) -> Chip
     ensures { result ≡ fed_by answer buffer.now chip }
 {
     match answer {
-        ListAnswer::Listed { n, t } => chip::feed(chip, &buffer[..4 + 2 * n + t]).chip,
-        ListAnswer::Short { needed: _ } | ListAnswer::Refused(_) => chip,
+        Ok(Listed { n, t }) => chip::feed(chip, &buffer[..4 + 2 * n + t]).chip,
+        Err(_) => chip,
     }
 }
 

@@ -64,7 +64,7 @@ pub fn call_numbers(answer: CallAnswer) -> Numbers
 pub fn answers_locked(answer: CallAnswer) -> bool
     ensures { result ≡ answers_locked answer }
 {
-    call_numbers(answer).number == map::refusal_number(Refusal::Locked) as usize
+    call_numbers(answer).values[0] == map::refusal_number(Refusal::Locked) as usize
 }
 
 // One call on a world. The bytes of a Scene and the buffer of a Reset or an Update are lent.

@@ -2,29 +2,26 @@
 -- Assumes nothing.
 use mathlib.Core.Path.{◌≡◌, refl, ap, subst, ◌∙◌}
 use mathlib.Core.Bool.{Bool, true, false}
-use Rattle.std.specs.Prelude.{Option, Some, None}
+use Rattle.std.specs.Prelude.{Option, Some, None, Ok, Err}
 use mathlib.Core.List.{List, [], ◌∷◌, ◌++◌}
 use Prim.Native.Nat.{ℕ, ◌≤◌}
 use native.Mathlib.Omega.{arith}
 use lib.ListN.{length, take, drop, length-append}
 use lib.Seq.{take-length, take-append-le, take_at, length-take-le, length_front}
-use Rattle.map.specs.declared.refusals.Answer.{Answer}
-use Rattle.map.specs.declared.refusals.Answer.TheVariants.{Accepted, Refused}
 use Rattle.map.specs.declared.refusals.Refusal.{Refusal}
 use Rattle.map.specs.declared.refusals.Refusal.TheVariants.{Unsound}
 use Rattle.map.specs.declared.refusals.Numbers as numbers
-use Rattle.map.specs.Refusals.{refusal_number, numbers_of, open_answer, opens}
+use Rattle.map.specs.Refusals.{Answer, refusal_number, numbers_of, open_answer, opens}
 use Rattle.burst.specs.Burst.{bus_bytes}
-use Rattle.faults.specs.declared.Answer as faults
+use Rattle.faults.specs.Faults as faults
 use Rattle.faults.specs.Faults.{answer_numbers, faults_answer, faults_result}
 use Rattle.calls.specs.declared.Request.{Request}
 use Rattle.calls.specs.declared.Request.TheVariants.{Set, Reset, PowerLost, Update, Lock}
 use Rattle.host.specs.declared.Changed.{Changed}
 use Rattle.host.specs.declared.Record.{Record}
 use Rattle.host.specs.Record.{open_of, sound_of}
-use Rattle.update.specs.declared.ListAnswer.TheVariants.{Listed, Refused as ListRefused}
 use Rattle.update.specs.declared.Updated.{Updated}
-use Rattle.update.specs.Update.{writes_of, send_answer, send_of, update_of}
+use Rattle.update.specs.Update.{listed, refused, writes_of, send_answer, send_of, update_of}
 use Rattle.update.specs.BoundLaws.{always_room}
 use Rattle.chip.specs.declared.Opened.{Opened}
 use Rattle.chip.specs.Chip.{at_reset_of}
@@ -60,11 +57,11 @@ plain_words Locked p = omega arith
 
 -- ---- `open`
 
-pub open_accepted : (s t : Session) (m b p : ℕ) (a : Answer) → a ≡ open_answer m b p → a ≡ Accepted → t ≡ opened_session m b p → open_effect s m b p ≡ numbered a t
+pub open_accepted : (s t : Session) (m b p : ℕ) (a : Answer) → a ≡ open_answer m b p → (u : Unit {0}) → a ≡ Ok u → t ≡ opened_session m b p → open_effect s m b p ≡ numbered a t
 unfolding open_effect opens
-open_accepted s t m b p a ea et es = rw (← ea, et, es) refl
+open_accepted s t m b p a ea u et es = rw (← ea, et, es) refl
 
-pub open_refused : (s t : Session) (m b p : ℕ) (a : Answer) (x : Refusal) → a ≡ open_answer m b p → a ≡ Refused x → t ≡ s → open_effect s m b p ≡ numbered a t
+pub open_refused : (s t : Session) (m b p : ℕ) (a : Answer) (x : Refusal) → a ≡ open_answer m b p → a ≡ Err x → t ≡ s → open_effect s m b p ≡ numbered a t
 unfolding open_effect opens
 open_refused s t m b p a x ea et es = rw (← ea, et, es) refl
 
@@ -138,15 +135,15 @@ shown_does old bytes new n s h o k p =
 
 -- x is an update with room for every list
 module _ (r : Record) (x : Updated) (e : x ≡ update_of r 1174) where
-  sound_listed : sound_of r ≡ true → x.answer ≡ Listed (length (writes_of r)) (bus_bytes (writes_of r))
+  sound_listed : sound_of r ≡ true → x.answer ≡ listed (length (writes_of r)) (bus_bytes (writes_of r))
   unfolding send_of
   sound_listed s = ap (λ (y : Updated). y.answer) e ∙ always_room r s 1174 (omega arith)
 
-  unsound_refused : sound_of r ≡ false → x.answer ≡ ListRefused Unsound
+  unsound_refused : sound_of r ≡ false → x.answer ≡ refused Unsound
   unfolding send_of send_answer
   unsound_refused s = ap (λ (y : Updated). y.answer) e ∙ rw s refl
 
-  pub pending_listed : (n t : ℕ) → x.answer ≡ Listed n t → n ∷ t ∷ [] ≡ pending_numbers r
+  pub pending_listed : (n t : ℕ) → x.answer ≡ listed n t → n ∷ t ∷ [] ≡ pending_numbers r
   unfolding pending_numbers
   pending_listed n t is = go (sound_of r) refl
     where
@@ -157,7 +154,7 @@ module _ (r : Record) (x : Updated) (e : x ≡ update_of r 1174) where
           let z : ◌≡◌ {A = ℕ} 0 1 = cc in
           absurd (omega arith)
 
-  pub pending_refused : ((n t : ℕ) → x.answer ≡ Listed n t → ⊥) → refusal_number Unsound ∷ [] ≡ pending_numbers r
+  pub pending_refused : ((n t : ℕ) → x.answer ≡ listed n t → ⊥) → refusal_number Unsound ∷ [] ≡ pending_numbers r
   unfolding pending_numbers
   pending_refused none = go (sound_of r) refl
     where

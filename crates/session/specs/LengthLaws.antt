@@ -2,7 +2,7 @@
 -- them, a buffer at most 16,384 digits, and between and behind them stand a space and LF. An answer without a buffer has at most five numbers
 -- of 20 digits, whatever the call.
 -- Assumes nothing.
-use Rattle.std.specs.Prelude.{◌≡◌, refl, Bool, true, false, cond, List, [], ◌∷◌, ℕ, ◌≤◌, ◌<◌, leb, length, take}
+use Rattle.std.specs.Prelude.{◌≡◌, refl, Bool, true, false, cond, Ok, Err, List, [], ◌∷◌, ℕ, ◌≤◌, ◌<◌, leb, length, take}
 use Rattle.std.proofs.Common.{ap, subst, arith, length-take}
 use Rattle.std.proofs.Math.ListN.{length-append}
 use Rattle.map.specs.declared.refusals.Numbers as numbers
@@ -16,12 +16,9 @@ use Rattle.calls.specs.declared.Request.TheVariants.{Set, Reset, PowerLost, Upda
 use Rattle.host.specs.declared.Header.{Header}
 use Rattle.host.specs.declared.Record.{Record}
 use Rattle.host.specs.Record.{is_locked, sound_of}
-use Rattle.update.specs.declared.ListAnswer.{ListAnswer}
-use Rattle.update.specs.declared.ListAnswer.TheVariants.{Listed, Short, Refused}
-use Rattle.update.specs.Update.{list_numbers, update_numbers, is_listed, list_size, writes_of, Sending, send_answer, send_of, updating, command}
+use Rattle.update.specs.Update.{ListAnswer, listed, short, refused, list_numbers, update_numbers, is_listed, list_size, writes_of, Sending, send_answer, send_of, updating, command}
 use Rattle.update.specs.BoundLaws.{bus_most, writes_few, size_most}
-use Rattle.faults.specs.declared.Answer as faults
-use Rattle.faults.specs.Faults.{answer_numbers, faults_answer}
+use Rattle.faults.specs.Faults.{Answer, answer_numbers, faults_answer}
 use Rattle.history.specs.declared.World.{World}
 use Rattle.history.specs.Step.{call_numbers, send_step, step_of}
 use Rattle.text.specs.Text.{address_text, bytes_text}
@@ -73,7 +70,7 @@ unfolding send_answer
 send_most r x size h = go (sound_of r) (leb (list_size x.writes) size) h
   where
     go : (b c : Bool) → (b ≡ true → Brief x) →
-        length (numbers_text (list_numbers (cond b (cond c (Listed (length x.writes) (bus_bytes x.writes)) x.short) (Refused Unsound)))) ≤ 13
+        length (numbers_text (list_numbers (cond b (cond c (listed (length x.writes) (bus_bytes x.writes)) x.short) (refused Unsound)))) ≤ 13
     go true true brief = values_most 0 (length x.writes) (bus_bytes x.writes) (omega arith) (brief refl).writes (brief refl).bytes
     go true false brief = (brief refl).short
     go false c brief = alone_most (refusal_number Unsound) (omega arith)
@@ -96,7 +93,7 @@ update_most w lent = held_most _ (go (sound_of w.host) refl (leb (list_size (wri
   where
     answer : Bool → Bool → ListAnswer
     answer b c =
-        cond b (cond c (Listed (length (writes_of w.host)) (bus_bytes (writes_of w.host))) (Short (list_size (writes_of w.host)))) (Refused Unsound)
+        cond b (cond c (listed (length (writes_of w.host)) (bus_bytes (writes_of w.host))) (short (list_size (writes_of w.host)))) (refused Unsound)
 
     go : (b : Bool) → sound_of w.host ≡ b → (c : Bool) →
         length (numbers_text (update_numbers (answer b c) (cond (is_listed (answer b c)) (data_bytes (writes_of w.host)) 0))) ≤ 13
@@ -113,14 +110,14 @@ unfolding send_of
 command_most w a values after lent h =
     held_most _ (send_most w.host (command a values after) (length lent) (λ e. command_brief a values after h))
 
-faults_most : (answer : faults.Answer) → length (numbers_text (answer_numbers answer)) ≤ 13
+faults_most : (answer : Answer) → length (numbers_text (answer_numbers answer)) ≤ 13
 unfolding answer_numbers
-faults_most (faults.TheVariants.Read o s) = values_most 0 _ _ (omega arith) (digit o) (digit s)
+faults_most (Ok g) = values_most 0 _ _ (omega arith) (digit g.opens) (digit g.shorts)
   where
     digit : (b : Bool) → cond b 1 0 < 1000
     digit true = omega arith
     digit false = omega arith
-faults_most (faults.TheVariants.Refused r) = alone_most (refusal_number r) (refusal_small r)
+faults_most (Err r) = alone_most (refusal_number r) (refusal_small r)
 
 -- ---- replies
 

@@ -1,13 +1,11 @@
 -- A line of a script, and all that it does: the table's middle column. s is the session, that is the record and the chip that the
 -- script plays on with their ledger; l the line, b the buffer, of which the first n bytes are lent.
 -- Assumes nothing.
-use Rattle.std.specs.Prelude.{◌≡◌, Bool, true, false, cond, not, ◌&&◌, List, [], ◌∷◌, Option, Some, None, ℕ, zero, suc, ◌^◌, ◌≤◌, ◌<◌, eqb, length, get_or, take, set}
+use Rattle.std.specs.Prelude.{◌≡◌, Bool, true, false, cond, not, ◌&&◌, List, [], ◌∷◌, Option, Some, None, Ok, ℕ, zero, suc, ◌^◌, ◌≤◌, ◌<◌, eqb, length, get_or, take, set}
 use Rattle.map.specs.Map.{writable_of}
-use Rattle.map.specs.declared.refusals.Answer.{Answer}
-use Rattle.map.specs.declared.refusals.Answer.TheVariants.{Accepted}
 use Rattle.map.specs.declared.refusals.Numbers as numbers
 use Rattle.map.specs.declared.refusals.Refusal.TheVariants.{Unsound}
-use Rattle.map.specs.Refusals.{refusal_number, answer_number, numbers_of, open_answer, opens}
+use Rattle.map.specs.Refusals.{Answer, refusal_number, answer_number, numbers_of, open_answer, opens}
 use Rattle.burst.specs.Burst.{bus_bytes}
 use Rattle.calls.specs.declared.Request.{Request}
 use Rattle.host.specs.declared.Header.{Header}
@@ -63,7 +61,7 @@ Plain Locked = 0 ≤ 0
 -- a number without a buffer is a machine's word
 unfoldable pub Words : Reply → Type 0
 Words Bad = 0 ≤ 0
-Words (Numbers n) = (n.number < 2 ^ 64) × (n.first < 2 ^ 64) × (n.second < 2 ^ 64) × (n.third < 2 ^ 64) × (n.fourth < 2 ^ 64)
+Words (Numbers n) = (length n.values ≡ 5) × All (λ v. v < 2 ^ 64) n.values
 Words (Lent n) = 0 ≤ 0
 Words Bytes = 0 ≤ 0
 Words Same = 0 ≤ 0
@@ -187,7 +185,7 @@ with_entry w e v = record { host = record_of (header_with w.host.header e v) w.h
 
 -- "`poke` and `header` void the ledger"
 unfoldable pub behind_back : World → Effect
-behind_back w = numbered Accepted (record { world = w; ledger = None })
+behind_back w = numbered (Ok tt) (record { world = w; ledger = None })
 
 -- ---- `check`
 

@@ -5,7 +5,6 @@ ghost use Rattle.session.specs.Run.{Does, opened_session, open_effect};
 use crate::Session;
 use crate::outcomes::{Outcome, numbered};
 use history::World;
-use map::Answer;
 
 #[tactic(auto, unfolding(crate::specs::Run::opened_session))]
 pub(crate) fn opened(member: usize, bus: usize, pins: usize) -> Session
@@ -26,8 +25,8 @@ pub(crate) fn open(session: Session, member: usize, bus: usize, pins: usize) -> 
 {
     let answer = map::open_answer(member, bus, pins);
     let after = match answer {
-        Answer::Accepted => opened(member, bus, pins),
-        Answer::Refused(_) => session,
+        Ok(()) => opened(member, bus, pins),
+        Err(_) => session,
     };
     numbered(answer, after)
 }

@@ -8,7 +8,7 @@ use crate::outcomes::{Outcome, answered};
 use host::Record;
 use map::{Numbers, Refusal};
 use script::Lent;
-use update::ListAnswer;
+use update::Listed;
 
 // The most bytes that the list of an update takes.
 const LIST: usize = 1174;
@@ -18,8 +18,8 @@ fn pending_numbers(host: Record) -> Numbers
     ensures { result ≡ numbers_of (pending_numbers host) }
 {
     match update::update(host, &mut [0; LIST]).answer {
-        ListAnswer::Listed { n, t } => map::with_value(n, t),
-        ListAnswer::Short { needed: _ } | ListAnswer::Refused(_) => map::number_alone(map::refusal_number(Refusal::Unsound) as usize),
+        Ok(Listed { n, t }) => map::with_value(n, t),
+        Err(_) => map::number_alone(map::refusal_number(Refusal::Unsound) as usize),
     }
 }
 
