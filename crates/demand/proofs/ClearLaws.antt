@@ -12,8 +12,7 @@ use Rattle.map.specs.Images.{reset_image}
 use Rattle.burst.specs.Burst.{Burst, encode}
 use Rattle.host.specs.declared.Record.{Record}
 use Rattle.host.specs.Record.{header_of, record_of}
-use Rattle.update.specs.declared.ListAnswer.{ListAnswer}
-use Rattle.update.specs.Update.{send_of, clearing}
+use Rattle.update.specs.Update.{ListAnswer, send_of, clearing}
 use Rattle.update.specs.SendLaws.{send_listed, clear_leaves}
 use Rattle.chip.specs.declared.Chip.{Chip}
 use Rattle.chip.specs.Chip.{chip_of, hear, feed_of}

@@ -177,8 +177,8 @@ module _ (m b p : ℕ) (o : opens m b p ≡ true) where
     unfolding send_of send_answer send_buffer
     sent_holds x f buffer = rw (is_so) (go (leb (list_size x.writes) (length buffer)))
       where
-        listed : Holds m b p s (record { host = x.host; chip = chip_of m b p f.after })
-        listed = record {
+        sent : Holds m b p s (record { host = x.host; chip = chip_of m b p f.after })
+        sent = record {
           marks = f.marks;
           image = f.image;
           registers = f.after;
@@ -199,7 +199,7 @@ module _ (m b p : ℕ) (o : opens m b p ≡ true) where
         })
         go true =
             subst (λ (c : Chip). Holds m b p s (record { host = x.host; chip = c }))
-            (sym (ap (λ (l : List ℕ). (feed_of chip l).chip) (front b p x.writes buffer) ∙ f.fed)) listed
+            (sym (ap (λ (l : List ℕ). (feed_of chip l).chip) (front b p x.writes buffer) ∙ f.fed)) sent
         go false =
             rw f.no_list
             (subst (λ (c : Chip). Holds m b p s (record { host = host; chip = c })) (sym (not_fed x.short buffer chip f.no_list)) stays)
