@@ -2,8 +2,7 @@
 -- about every record, so about "all members and both buses together". r is a record, l and k are lines, s and t sinks, v and w values.
 -- Assumes nothing.
 use Rattle.std.specs.Prelude.{◌≡◌, Bool, true, not, List, [], ◌∷◌, ℕ, ◌<◌, eqb}
-use Rattle.map.specs.declared.refusals.Answer.{Answer}
-use Rattle.map.specs.Refusals.{accepted}
+use Rattle.map.specs.Refusals.{Answer, accepted}
 use Rattle.map.specs.Map.{dot_number}
 use Rattle.dots.specs.Dots.{wide_of}
 use Rattle.calls.specs.declared.Setting.{Setting}
