@@ -36,10 +36,17 @@ module _ (settings image : List ℕ) (from : ℕ) where
       at k l u (yes h) = s.same k l h
       at k l u (no n) = t.same k (omega arith) u
 
-  -- a block up to i so far
-  pub block_more : (i bits : ℕ) → (bits ≡ 0 → SameTo settings image from i) →
-      bit_or bits (bit_xor (get_or settings i 0) (get_or image i 0)) ≡ 0 → SameTo settings image from (i + 1)
-  block_more i bits s e = let g = gathered (get_or settings i 0) (get_or image i 0) e in same_more i (s g.0) g.1
+  -- a block of i bytes so far
+
+  pub block_none : SameTo settings image from (from + 0)
+  block_none = subst (SameTo settings image from) (sym (add-zero from)) same_none
+
+  pub block_more : (i bits : ℕ) → (bits ≡ 0 → SameTo settings image from (from + i)) →
+      bit_or bits (bit_xor (get_or settings (from + i) 0) (get_or image (from + i) 0)) ≡ 0 → SameTo settings image from (from + (i + 1))
+  block_more i bits s e =
+      let g = gathered (get_or settings (from + i) 0) (get_or image (from + i) 0) e in
+      let z : from + i + 1 ≡ from + (i + 1) = omega arith in
+      subst (SameTo settings image from) z (same_more (from + i) (s g.0) g.1)
     where
       -- gathered bits that are 0 are of bytes that are the same
       gathered : (x y : ℕ) → bit_or bits (bit_xor x y) ≡ 0 → (bits ≡ 0) × (x ≡ y)

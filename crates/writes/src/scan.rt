@@ -10,7 +10,9 @@ ghost use Rattle.writes.specs.Found.{differs_at, Agree, SameTo, FirstDiffering, 
 
 use host::{Header, RecordRef};
 
-// Whether an address may be written: it is writable for the member, and no locked one.
+// Whether an address may be written: it is writable for the member, and no locked one. Not inlined: in the loop of `hole` it would be worked
+// out for every kind of register at once, at three times the instructions.
+#[inline(never)]
 pub fn may_write(header: Header, address: usize) -> bool
     ensures { result ≡ may_write header address }
 {
@@ -29,8 +31,8 @@ fn same_block(settings: &[u8; 908], image: &[u8; 908], from: usize, size: usize)
     ensures { result ≡ true → SameTo settings.now image.now from (from + size) }
 {
     let mut bits = 0;
-    for i in from..from + size {
-        bits |= settings[i] ^ image[i];
+    for i in 0..size {
+        bits |= settings[from + i] ^ image[from + i];
     }
     bits == 0
 }
