@@ -1,6 +1,6 @@
 -- `images::image_ok` meets its contract.
 -- Assumes nothing.
-use Rattle.std.proofs.Common.{rules, ◌∙◌, refl, sym, ap, ◌&&◌, Bool}
+use Rattle.std.proofs.Common.{rules, ◌∙◌, refl, sym}
 use Rattle.map.specs.Lists.{all_from}
 use Rattle.map.specs.Images.{ok_at}
 use Rattle.map.specs.ImageLaws.{registers_ok_lem}
