@@ -1,53 +1,43 @@
--- `check`, address by address.
+-- `check`: the first pair of bytes that differs is at the lowest address that differs.
 -- Assumes nothing.
 use mathlib.Core.Path.{◌≡◌, refl, sym, ap, ◌∙◌}
-use mathlib.Core.Bool.{Bool, true, false}
-use mathlib.Core.List.{List}
-use Prim.Native.Nat.{ℕ, suc, ◌+◌, ◌-◌, ◌≤◌, ◌<◌}
+use mathlib.Core.Bool.{Bool, true, false, cond}
+use mathlib.Core.List.{List, [], ◌∷◌}
+use Prim.Native.Nat.{ℕ, zero, suc, ◌+◌, ◌<◌}
 use native.Mathlib.Numerals.{add-one}
 use native.Mathlib.Omega.{arith}
-use borrow.Author.Tests.{eq-eqb, ne_eqb}
-use lib.ListN.{get_or}
-use Rattle.map.specs.Map.{writable_of}
+use Rattle.std.specs.Prelude.{Option, Some, None, find}
+use Rattle.std.specs.List.{enumerate_from, zip}
+use Rattle.std.proofs.lemmas.List.{drop_all}
+use Rattle.std.proofs.Math.Seq.{drop-cons}
+use lib.ListN.{length, get_or, drop}
 use Rattle.replies.specs.declared.Reply.{Reply}
-use Rattle.replies.specs.declared.Reply.TheVariants.{Bad, Same, Differs}
-use Rattle.session.specs.declared.Session.{Session}
+use Rattle.replies.specs.declared.Reply.TheVariants.{Same, Differs}
 use Rattle.session.specs.Run.{chip_differs, compare_from}
 
-pub differs_same : (m a held asked : ℕ) → held ≡ asked → false ≡ chip_differs m a held asked
-unfolding chip_differs
-differs_same m a held asked e = rw (eq-eqb held asked e) refl
+-- the reply to the first address that differs, with the bytes that chip and ledger have there
+abbrev pub reply_of : Option (ℕ × (ℕ × ℕ)) → Reply
+reply_of (Some p) = Differs p.0
+reply_of None = Same
 
-pub differs_other : (m a held asked : ℕ) (w : Bool) → (held ≡ asked → ⊥) → w ≡ writable_of m a → w ≡ chip_differs m a held asked
-unfolding chip_differs
-differs_other m a held asked w ne e = rw (ne_eqb held asked ne) e
+abbrev pub differing : ℕ → ℕ × (ℕ × ℕ) → Bool
+differing m p = chip_differs m p.0 p.1.0 p.1.1
 
 module _ (m : ℕ) (x y : List ℕ) where
-  -- what is left to compare says what the whole does
-  abbrev pub Left : ℕ → Type 0
-  Left a = compare_from m x y a (908 - a) ≡ compare_from m x y 0 908
-
-  step : (a n : ℕ) (t : Bool) → chip_differs m a (get_or x a 0) (get_or y a 0) ≡ t →
-      compare_from m x y a (suc n) ≡ elim t [ true ↦ Differs a | false ↦ compare_from m x y (suc a) n ]
+  found_from : (n a : ℕ) → a + n ≡ length x → a + n ≡ length y → reply_of (find (differing m) (enumerate_from a (zip (drop a x) (drop a y)))) ≡ compare_from m x y a n
   unfolding compare_from
-  step a n t e = rw (e, compare_from) refl
+  found_from zero a ex ey = rw (drop_all a x (omega arith)) refl
+  found_from (suc n) a ex ey =
+      let hx : a < length x = omega arith in
+      let hy : a < length y = omega arith in
+      let rest = found_from n (suc a) (omega arith) (omega arith) in
+      rw (drop-cons x a 0, drop-cons y a 0, add-one a) (go (chip_differs m a (get_or x a 0) (get_or y a 0)) rest)
+    where
+      go : (t : Bool) → reply_of (find (differing m) (enumerate_from (suc a) (zip (drop (suc a) x) (drop (suc a) y)))) ≡ compare_from m x y (suc a) n →
+          reply_of (cond t (Some (a, (get_or x a 0, get_or y a 0))) (find (differing m) (enumerate_from (suc a) (zip (drop (suc a) x) (drop (suc a) y)))))
+          ≡ elim t [ true ↦ Differs a | false ↦ compare_from m x y (suc a) n ]
+      go true e = refl
+      go false e = e
 
-  next : (a : ℕ) (t : Bool) → a < 908 → chip_differs m a (get_or x a 0) (get_or y a 0) ≡ t →
-      compare_from m x y a (908 - a) ≡ elim t [ true ↦ Differs a | false ↦ compare_from m x y (a + 1) (908 - (a + 1)) ]
-  next a t h e =
-      let one : 908 - a ≡ suc (908 - (a + 1)) = omega arith in
-      ap (compare_from m x y a) one
-      ∙ step a (908 - (a + 1)) t e
-      ∙ ap (λ (k : ℕ). elim t [ true ↦ Differs a | false ↦ compare_from m x y k (908 - (a + 1)) ]) (sym (add-one a))
-
-  pub compare_more : (a : ℕ) (t : Bool) → a < 908 → t ≡ chip_differs m a (get_or x a 0) (get_or y a 0) → t ≡ false → Left a → Left (a + 1)
-  compare_more a t h e f w = sym (next a false h (sym e ∙ f)) ∙ w
-
-  pub compare_found : (a : ℕ) (t : Bool) → a < 908 → t ≡ chip_differs m a (get_or x a 0) (get_or y a 0) → t ≡ true → Left a → Differs a ≡ compare_from m x y 0 908
-  compare_found a t h e f w = sym (next a true h (sym e ∙ f)) ∙ w
-
-  pub compare_all : (a : ℕ) → 908 ≤ a → Left a → Same ≡ compare_from m x y 0 908
-  unfolding compare_from
-  compare_all a h w =
-      let none : 908 - a ≡ 0 = omega arith in
-      sym (rw none refl) ∙ w
+  pub found : length x ≡ 908 → length y ≡ 908 → reply_of (find (differing m) (enumerate_from 0 (zip x y))) ≡ compare_from m x y 0 908
+  found ex ey = found_from 908 0 (sym ex) (sym ey)

@@ -1,6 +1,6 @@
 -- What a line does, over plain values: r is what the program gives back of it.
 -- Assumes nothing.
-use mathlib.Core.Path.{◌≡◌, refl, ap, subst, ◌∙◌}
+use mathlib.Core.Path.{◌≡◌, refl, sym, ap, subst, ◌∙◌}
 use mathlib.Core.Bool.{Bool, true, false}
 use Rattle.std.specs.Prelude.{Option, Some, None, Ok, Err}
 use mathlib.Core.List.{List, [], ◌∷◌, ◌++◌}
@@ -20,8 +20,10 @@ use Rattle.calls.specs.declared.Request.TheVariants.{Set, Reset, PowerLost, Upda
 use Rattle.host.specs.declared.Changed.{Changed}
 use Rattle.host.specs.declared.Record.{Record}
 use Rattle.host.specs.Record.{open_of, sound_of}
-use Rattle.update.specs.declared.Updated.{Updated}
-use Rattle.update.specs.Update.{listed, refused, writes_of, send_answer, send_of, update_of}
+use Rattle.update.specs.declared.Listed.{Listed}
+use Rattle.update.specs.declared.NotListed.{NotListed}
+use Rattle.update.specs.declared.NotListed.TheVariants.{Refused}
+use Rattle.update.specs.Update.{ListAnswer, listed, refused, writes_of, send_answer, update_answer}
 use Rattle.update.specs.BoundLaws.{always_room}
 use Rattle.chip.specs.declared.Opened.{Opened}
 use Rattle.chip.specs.Chip.{at_reset_of}
@@ -133,33 +135,36 @@ shown_does old bytes new n s h o k p =
 
 -- ---- `pending`
 
--- x is an update with room for every list
-module _ (r : Record) (x : Updated) (e : x ≡ update_of r 1174) where
-  sound_listed : sound_of r ≡ true → x.answer ≡ listed (length (writes_of r)) (bus_bytes (writes_of r))
-  unfolding send_of
-  sound_listed s = ap (λ (y : Updated). y.answer) e ∙ always_room r s 1174 (omega arith)
+-- the answer of an update with room for every list: that of a sound record is a list
+module _ (r : Record) (answer : ListAnswer) (e : answer ≡ update_answer r 1174) where
+  sound_listed : sound_of r ≡ true → answer ≡ listed (length (writes_of r)) (bus_bytes (writes_of r))
+  sound_listed s = e ∙ always_room r s 1174 (omega arith)
 
-  unsound_refused : sound_of r ≡ false → x.answer ≡ refused Unsound
-  unfolding send_of send_answer
-  unsound_refused s = ap (λ (y : Updated). y.answer) e ∙ rw s refl
+  unsound_refused : sound_of r ≡ false → answer ≡ refused Unsound
+  unfolding send_answer
+  unsound_refused s = e ∙ rw s refl
 
-  pub pending_listed : (n t : ℕ) → x.answer ≡ listed n t → n ∷ t ∷ [] ≡ pending_numbers r
+  pub pending_listed : (l : Listed) → answer ≡ Ok l → l.n ∷ l.t ∷ [] ≡ pending_numbers r
   unfolding pending_numbers
-  pending_listed n t is = go (sound_of r) refl
+  pending_listed l is = go (sound_of r) refl
     where
-      go : (b : Bool) → sound_of r ≡ b → n ∷ t ∷ [] ≡ pending_numbers r
-      go true s = let same = sound_listed s in rw s (cc)
+      go : (b : Bool) → sound_of r ≡ b → l.n ∷ l.t ∷ [] ≡ pending_numbers r
+      go true s =
+          let same : ◌≡◌ {A = ListAnswer} (Ok l) (Ok (record { n = length (writes_of r); t = bus_bytes (writes_of r) })) = sym is ∙ sound_listed s in
+          let parts : l ≡ record { n = length (writes_of r); t = bus_bytes (writes_of r) } = cc in
+          rw (s, parts) refl
       go false s =
-          let other = unsound_refused s in
-          let z : ◌≡◌ {A = ℕ} 0 1 = cc in
-          absurd (omega arith)
+          let other : ◌≡◌ {A = ListAnswer} (Ok l) (Err (Refused Unsound)) = sym is ∙ unsound_refused s in
+          cc
 
-  pub pending_refused : ((n t : ℕ) → x.answer ≡ listed n t → ⊥) → refusal_number Unsound ∷ [] ≡ pending_numbers r
+  pub pending_refused : (x : NotListed) → answer ≡ Err x → refusal_number Unsound ∷ [] ≡ pending_numbers r
   unfolding pending_numbers
-  pending_refused none = go (sound_of r) refl
+  pending_refused x is = go (sound_of r) refl
     where
       go : (b : Bool) → sound_of r ≡ b → refusal_number Unsound ∷ [] ≡ pending_numbers r
-      go true s = absurd (none _ _ (sound_listed s))
+      go true s =
+          let other : ◌≡◌ {A = ListAnswer} (Err x) (Ok (record { n = length (writes_of r); t = bus_bytes (writes_of r) })) = sym is ∙ sound_listed s in
+          cc
       go false s = rw s refl
 
 -- ---- a command: b is the buffer before it, e after it

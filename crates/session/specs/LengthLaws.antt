@@ -2,9 +2,10 @@
 -- them, a buffer at most 16,384 digits, and between and behind them stand a space and LF. An answer without a buffer has at most five numbers
 -- of 20 digits, whatever the call.
 -- Assumes nothing.
-use Rattle.std.specs.Prelude.{◌≡◌, refl, Bool, true, false, cond, Ok, Err, List, [], ◌∷◌, ℕ, ◌≤◌, ◌<◌, leb, length, take}
+use Rattle.std.specs.Prelude.{◌≡◌, refl, Bool, true, false, cond, Ok, Err, List, [], ◌∷◌, ℕ, ◌^◌, ◌≤◌, ◌<◌, leb, length, take}
 use Rattle.std.proofs.Common.{ap, subst, arith, length-take}
 use Rattle.std.proofs.Math.ListN.{length-append}
+use Rattle.std.specs.List.{All}
 use Rattle.map.specs.declared.refusals.Numbers as numbers
 use Rattle.map.specs.declared.refusals.Refusal.TheVariants.{BufferShort, Unsound}
 use Rattle.map.specs.Refusals.{refusal_number, numbers_in, numbers_of}
@@ -137,13 +138,27 @@ shown_most x h = bytes_length 16384 x (omega arith) (omega arith)
 
 words_most : (n : numbers.Numbers) → Words (Numbers n) → length (numbers_text (numbers_in n)) ≤ 104
 unfolding Words numbers_in
-words_most n h =
-    omega (
-      arith,
-      first_within n.count (n.number ∷ n.first ∷ n.second ∷ n.third ∷ n.fourth ∷ []),
-      numbers_most 19 n.number (19 ∷ 19 ∷ 19 ∷ 19 ∷ []) (n.first ∷ n.second ∷ n.third ∷ n.fourth ∷ []) (omega arith)
-          (omega arith, (omega arith, (omega arith, (omega arith, tt)))),
-    )
+words_most n h = go n.values h.0 h.1
+  where
+    go : (l : List ℕ) → length l ≡ 5 → All (λ (v : ℕ). v < 2 ^ 64) l → length (numbers_text (take n.count l)) ≤ 104
+    go [] e w = absurd (omega arith)
+    go (a ∷ []) e w = absurd (omega arith)
+    go (a ∷ b ∷ []) e w = absurd (omega arith)
+    go (a ∷ b ∷ c ∷ []) e w = absurd (omega arith)
+    go (a ∷ b ∷ c ∷ d ∷ []) e w = absurd (omega arith)
+    go (a ∷ b ∷ c ∷ d ∷ x ∷ []) e w =
+        let ha : a < 2 ^ 64 = w 0 0 (omega arith) in
+        let hb : b < 2 ^ 64 = w 1 0 (omega arith) in
+        let hc : c < 2 ^ 64 = w 2 0 (omega arith) in
+        let hd : d < 2 ^ 64 = w 3 0 (omega arith) in
+        let hx : x < 2 ^ 64 = w 4 0 (omega arith) in
+        omega (
+          arith,
+          first_within n.count (a ∷ b ∷ c ∷ d ∷ x ∷ []),
+          numbers_most 19 a (19 ∷ 19 ∷ 19 ∷ 19 ∷ []) (b ∷ c ∷ d ∷ x ∷ []) (omega arith)
+              (omega arith, (omega arith, (omega arith, (omega arith, tt)))),
+        )
+    go (a ∷ b ∷ c ∷ d ∷ x ∷ y ∷ l) e w = absurd (omega arith)
 
 reply_most : (r : Reply) (x : List ℕ) → length x ≤ 8192 → Words r → ShortLent r → length (reply_text r x) ≤ 16398
 unfolding reply_text ShortLent lent_text

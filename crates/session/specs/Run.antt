@@ -2,6 +2,7 @@
 -- script plays on with their ledger; l the line, b the buffer, of which the first n bytes are lent.
 -- Assumes nothing.
 use Rattle.std.specs.Prelude.{◌≡◌, Bool, true, false, cond, not, ◌&&◌, List, [], ◌∷◌, Option, Some, None, Ok, ℕ, zero, suc, ◌^◌, ◌≤◌, ◌<◌, eqb, length, get_or, take, set}
+use Rattle.std.specs.List.{All}
 use Rattle.map.specs.Map.{writable_of}
 use Rattle.map.specs.declared.refusals.Numbers as numbers
 use Rattle.map.specs.declared.refusals.Refusal.TheVariants.{Unsound}
@@ -199,11 +200,6 @@ unfoldable pub compare_from : ℕ → List ℕ → List ℕ → ℕ → ℕ → 
 compare_from m registers ledger a zero = Same
 compare_from m registers ledger a (suc n) =
     elim (chip_differs m a (get_or registers a 0) (get_or ledger a 0)) [ true ↦ Differs a | false ↦ compare_from m registers ledger (suc a) n ]
-
--- the reply to the first address that differs, of pairs of the bytes that chip and ledger have there
-abbrev pub reply_of : Option (ℕ × (ℕ × ℕ)) → Reply
-reply_of (Some p) = Differs p.0
-reply_of None = Same
 
 -- "`check` then prints `?` until the next accepted `open`"
 abbrev pub compare : List ℕ → Option Ledger → Reply

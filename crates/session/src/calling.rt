@@ -52,7 +52,9 @@ fn call_on(mut session: Session, request: Request, lent: Lent, bytes: &mut [u8])
 {
     let after = history::step(session.world, request, bytes);
     let locked = history::answers_locked(after.answer);
-    session.ledger = session.ledger.map(|ledger| history::enter(ledger, request, bytes, locked));
+    session.ledger = session
+        .ledger
+        .map(|ledger| history::enter(ledger, request, bytes, locked));
     stepped(session, after, lent, bytes.len())
 }
 

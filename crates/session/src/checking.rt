@@ -1,8 +1,6 @@
 // `check`: the chip against the ledger.
 ghost use Rattle.std.specs.Prelude.{◌≡◌, List, ℕ};
-ghost use Rattle.std.specs.Prelude.{find};
-ghost use Rattle.std.specs.List.{enumerate_from, zip};
-ghost use Rattle.session.specs.Run.{Does, alone, chip_differs, reply_of, compared};
+ghost use Rattle.session.specs.Run.{Does, alone, chip_differs, compare_from, compared};
 
 use crate::Session;
 use crate::outcomes::{Outcome, alone};
@@ -18,13 +16,12 @@ fn chip_differs(member: usize, address: usize, held: u8, asked: u8) -> bool
 
 // The lowest address at which chip and ledger differ.
 fn difference(member: usize, registers: &[u8; 908], ledger: &[u8; 908]) -> Reply
-    ensures { result ≡ reply_of (find (λ p. chip_differs member p.0 p.1.0 p.1.1) (enumerate_from 0 (zip registers.now ledger.now))) }
+    ensures { result ≡ compare_from member registers.now ledger.now 0 908 }
 {
-    let found = registers
-        .iter()
-        .zip(ledger)
-        .enumerate()
-        .find(|(address, (held, asked))| chip_differs(member, *address, **held, **asked));
+    let found = registers.iter().zip(ledger).enumerate().find(|(
+        address,
+        (held, asked),
+    )| chip_differs(member, *address, **held, **asked));
     match found {
         Some((address, _)) => Reply::Differs(address),
         None => Reply::Same,

@@ -17,7 +17,7 @@ const LIST: usize = 1174;
 fn pending_numbers(host: Record) -> Numbers
     ensures { result ≡ numbers_of (pending_numbers host) }
 {
-    match update::update(host, &mut [0; LIST]).answer {
+    match update::update_parts(host.lent(), &mut [0u8; LIST]) {
         Ok(Listed { n, t }) => map::with_value(n, t),
         Err(_) => map::number_alone(map::refusal_number(Refusal::Unsound) as usize),
     }
