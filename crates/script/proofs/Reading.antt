@@ -1,23 +1,23 @@
 -- The turns of the loops that read a line, over plain lists.
 -- Assumes nothing.
-use mathlib.Core.Path.{◌≡◌, refl, sym, ap, ◌∙◌}
-use mathlib.Core.Bool.{Bool, true, false, cond, ◌&&◌}
-use mathlib.Core.List.{List, [], ◌∷◌}
-use Prim.Native.Nat.{ℕ, zero, suc, ◌+◌, ◌-◌, ◌*◌, ◌/◌, ◌%◌, ◌≤◌, ◌<◌}
-use native.Mathlib.Nat.{mul-le-mul_right, mul_comm, le-div_iff_mul-le, div-lt_iff_lt-mul, not-suc-le-zero}
-use native.Mathlib.Numerals.{add-one}
-use native.Mathlib.Omega.{arith}
-use borrow.Author.Tests.{lt-ltb, le-ltb, le-leb, lt-leb, eq-eqb, ne_eqb}
-use lib.Dec.{ltb, leb, eqb}
-use lib.ListN.{length, get_or, take, drop, length-drop, drop_of_length-le}
-use lib.Seq.{drop-cons, drop-drop, drop-nil, take-nil, length-take-le}
-use Rattle.script.specs.declared.numbers.Number.TheVariants.{Value, Bad}
-use Rattle.script.specs.Numbers.{digit_of, all_digits, value_from, is_numeral, numeral_of}
-use Rattle.script.specs.Bytes.{is_pairs, is_bytes, pair_of, bytes_of}
+use Rattle.std.proofs.Common.{◌≡◌, refl, sym, ap, ◌∙◌, Bool, true, false, cond, List, [], ◌∷◌, ℕ, zero, suc, ◌+◌, ◌-◌, ◌*◌, ◌/◌, ◌≤◌, ◌<◌, eqb, ltb, leb, length, get_or, take, drop, drop-cons, add-one, arith, lt-ltb, le-ltb, le-leb, ltb-false, Some, None, Option}
+use Rattle.std.proofs.Math.Nat.{mul-le-mul_right}
+use Rattle.std.proofs.Math.ListN.{length-drop, drop_of_length-le}
+use Rattle.std.proofs.Math.Seq.{length-take-le}
+use Rattle.std.proofs.lemmas.Bool.{lt-leb}
+use Rattle.std.proofs.lemmas.Bool.Decides.{nat_tests}
+use Rattle.std.specs.Prelude.{◌&&◌, not, position, unwrap_or, option_map, slice_get}
+use Rattle.std.specs.List.{slice_split, onto_first, position_or_len}
+use Rattle.std.proofs.lemmas.List.Recursion.{is_position_or_len}
+use Rattle.std.proofs.lemmas.List.Sums.{prefix_len-le-length}
+use Rattle.std.proofs.lemmas.Option.{unwrap_or-slice_get}
+use denote.Ref.{Bor}
+use Rattle.script.specs.Numbers.{digit_of, is_digit, all_digits, value_from, is_numeral, numeral_of}
+use Rattle.script.specs.Bytes.{pair_of, bytes_of}
 use Rattle.text.specs.Text.{Puts}
 use Rattle.text.specs.TextLaws.{after_inside, puts_length, Putting, putting_none, putting_more, putting_all}
 use Rattle.io.specs.Counts.{IsPrefixLen}
-use Rattle.script.specs.Words.{space_of, length_to, first_word, behind, word_at, word_count, same_text}
+use Rattle.script.specs.Words.{length_to, first_word, behind, word_at}
 
 -- one element, and what is left behind it
 pub next_left : (l : List ℕ) (i : ℕ) → i < length l → drop i l ≡ get_or l i 0 ∷ drop (i + 1) l
@@ -25,268 +25,195 @@ next_left l i h = drop-cons l i 0 h ∙ ap (λ (k : ℕ). get_or l i 0 ∷ drop 
 
 -- ---- words
 
-count_next : (l : List ℕ) (i : ℕ) → i < length l → word_count (drop i l) ≡ space_of (get_or l i 0) + word_count (drop (i + 1) l)
-unfolding word_count
-count_next l i h = ap word_count (next_left l i h)
-
-pub count_more : (l : List ℕ) (i words space : ℕ) → i < length l → space ≡ space_of (get_or l i 0) → words + word_count (drop i l) ≡ 1 + word_count l →
-    words + space + word_count (drop (i + 1) l) ≡ 1 + word_count l
-count_more l i words space h e w = omega (arith, count_next l i h)
-
-pub count_all_lem : (l : List ℕ) (i words : ℕ) → length l ≤ i → words + word_count (drop i l) ≡ 1 + word_count l → words ≡ word_count l
-unfolding word_count
-count_all_lem l i words h w =
-    let none : word_count (drop i l) ≡ 1 = ap word_count (drop_of_length-le l h) in
-    omega arith
-
--- the end of what starts at `from`, as seen from i, which has not passed it
-abbrev pub EndsAt : ℕ → List ℕ → ℕ → ℕ → Type 0
-EndsAt mark l from i = i + length_to mark (drop i l) ≡ from + length_to mark (drop from l)
-
-pub end_here : (mark : ℕ) (l : List ℕ) (from i : ℕ) → i < length l → get_or l i 0 ≡ mark → EndsAt mark l from i → i ≡ from + length_to mark (drop from l)
-unfolding length_to
-end_here mark l from i h e w =
-    let none : length_to mark (drop i l) ≡ 0 = ap (length_to mark) (next_left l i h) ∙ rw (eq-eqb _ _ e, length_to) refl in
-    omega arith
-
-pub end_more : (mark : ℕ) (l : List ℕ) (from i : ℕ) → i < length l → (get_or l i 0 ≡ mark → ⊥) → EndsAt mark l from i → EndsAt mark l from (i + 1)
-unfolding length_to
-end_more mark l from i h e w =
-    let one : length_to mark (drop i l) ≡ suc (length_to mark (drop (i + 1) l)) = ap (length_to mark) (next_left l i h) ∙ rw (ne_eqb _ _ e, length_to) refl in
-    omega arith
-
-pub end_all : (mark : ℕ) (l : List ℕ) (from i : ℕ) → length l ≤ i → EndsAt mark l from i → i ≡ from + length_to mark (drop from l)
-unfolding length_to
-end_all mark l from i h w =
-    let none : length_to mark (drop i l) ≡ 0 = ap (length_to mark) (drop_of_length-le l h) in
-    omega arith
-
--- the next word starts behind the end of this one
-pub word_more : (l : List ℕ) (from to n k : ℕ) → to ≡ from + length_to 0x20 (drop from l) → 0 < n →
-    word_at (drop from l) n ≡ word_at l k → word_at (drop (to + 1) l) (n - 1) ≡ word_at l k
-unfolding word_at behind
-word_more l from to zero k e h w = absurd (not-suc-le-zero h)
-word_more l from to (suc n) k e h w =
-    let place : to + 1 ≡ from + suc (length_to 0x20 (drop from l)) = omega arith in
-    let one : suc n - 1 ≡ n = omega arith in
-    rw (place, one) (ap (λ (x : List ℕ). word_at x n) (sym (drop-drop (suc (length_to 0x20 (drop from l))) from l)) ∙ w)
-
 pub word_empty : (n : ℕ) → word_at [] n ≡ []
-unfolding word_at behind first_word
-word_empty zero = take-nil (length_to 0x20 [])
-word_empty (suc n) = ap (λ (x : List ℕ). word_at x n) (drop-nil (suc (length_to 0x20 []))) ∙ word_empty n
+unfolding word_at behind first_word length_to
+word_empty zero = refl
+word_empty (suc n) = word_empty n
 
-pub word_none : (l : List ℕ) (from to n k : ℕ) → to ≡ from + length_to 0x20 (drop from l) → length l ≤ to → 0 < n →
-    word_at (drop from l) n ≡ word_at l k → take (length l - to) (drop to l) ≡ word_at l k
-word_none l from to n k e h p w =
-    ap (take (length l - to)) (drop_of_length-le l h) ∙ take-nil (length l - to)
-    ∙ sym (word_empty (n - 1)) ∙ ap (λ (x : List ℕ). word_at x (n - 1)) (sym (drop_of_length-le l {i = to + 1} (omega arith)))
-    ∙ word_more l from to n k e p w
+parts_empty : (n : ℕ) → get_or {A = List ℕ} ([] ∷ []) n [] ≡ []
+parts_empty zero = refl
+parts_empty (suc n) = refl
 
-pub word_found : (l : List ℕ) (from to n k : ℕ) → to ≡ from + length_to 0x20 (drop from l) → n ≤ 0 →
-    word_at (drop from l) n ≡ word_at l k → take (to - from) (drop from l) ≡ word_at l k
-unfolding word_at first_word
-word_found l from to zero k e h w =
-    let size : to - from ≡ length_to 0x20 (drop from l) = omega arith in
-    rw size w
-word_found l from to (suc n) k e h w = absurd (not-suc-le-zero h)
+onto_here : (b : ℕ) (ps : List (List ℕ)) → get_or (onto_first b ps) 0 [] ≡ b ∷ get_or ps 0 []
+onto_here b [] = refl
+onto_here b (p ∷ ps) = refl
 
--- ---- texts
+onto_later : (b : ℕ) (ps : List (List ℕ)) (n : ℕ) → get_or (onto_first b ps) (suc n) [] ≡ get_or ps (suc n) []
+onto_later b [] n = refl
+onto_later b (p ∷ ps) n = refl
 
-pub same_lengths : (x y : List ℕ) → (length x ≡ length y → ⊥) → same_text x y ≡ false
-unfolding same_text
-same_lengths [] [] h = absurd (h refl)
-same_lengths [] (b ∷ y) h = refl
-same_lengths (a ∷ x) [] h = refl
-same_lengths (a ∷ x) (b ∷ y) h = rest (eqb a b) (same_lengths x y (λ e. h (ap suc e)))
+-- the parts between spaces are the words
+pub split_word : (l : List ℕ) (n : ℕ) → get_or (slice_split (λ b. eqb b 0x20) l) n [] ≡ word_at l n
+unfolding word_at behind first_word length_to
+split_word [] n = parts_empty n ∙ sym (word_empty n)
+split_word (b ∷ l) n = go (eqb b 0x20) n (λ k. split_word l k) refl
   where
-    rest : (t : Bool) → same_text x y ≡ false → (t && same_text x y) ≡ false
-    rest true e = e
-    rest false e = refl
+    parts : List (List ℕ)
+    parts = slice_split (λ b. eqb b 0x20) l
 
-pub same_more : (x y : List ℕ) (i : ℕ) → i < length x → length x ≡ length y → get_or x i 0 ≡ get_or y i 0 →
-    same_text (drop i x) (drop i y) ≡ same_text x y → same_text (drop (i + 1) x) (drop (i + 1) y) ≡ same_text x y
-unfolding same_text
-same_more x y i h l e w = sym (rw (next_left x i h, next_left y i (omega arith), same_text, eq-eqb _ _ e) refl) ∙ w
+    go : (t : Bool) (n : ℕ) → ((k : ℕ) → get_or parts k [] ≡ word_at l k) → eqb b 0x20 ≡ t → get_or (slice_split (λ b. eqb b 0x20) (b ∷ l)) n [] ≡ word_at (b ∷ l) n
+    go true zero rest e = rw (e, length_to) refl
+    go true (suc n) rest e = rw (e, length_to) (rest n)
+    go false zero rest e = rw (e, length_to) (onto_here b parts ∙ ap (λ (w : List ℕ). b ∷ w) (rest zero))
+    go false (suc n) rest e = rw (e, length_to) (onto_later b parts n ∙ rest (suc n))
 
-pub same_differs : (x y : List ℕ) (i : ℕ) → i < length x → length x ≡ length y → (get_or x i 0 ≡ get_or y i 0 → ⊥) →
-    same_text (drop i x) (drop i y) ≡ same_text x y → false ≡ same_text x y
-unfolding same_text
-same_differs x y i h l e w = sym (rw (next_left x i h, next_left y i (omega arith), same_text, ne_eqb _ _ e) refl) ∙ w
+length_to_is : (mark : ℕ) (l : List ℕ) → length_to mark l ≡ position_or_len (λ b. eqb b mark) l
+unfolding length_to
+length_to_is mark l = is_position_or_len (length_to mark) (λ b. eqb b mark) refl (λ x xs. step (eqb x mark) (length_to mark xs)) l
+  where
+    step : (t : Bool) (n : ℕ) → elim t [ true ↦ 0 | false ↦ suc n ] ≡ cond t 0 (1 + n)
+    step true n = refl
+    step false n = omega arith
 
-pub same_all : (x y : List ℕ) (i : ℕ) → length x ≤ i → length x ≡ length y → same_text (drop i x) (drop i y) ≡ same_text x y → true ≡ same_text x y
-unfolding same_text
-same_all x y i h l w = sym (rw (drop_of_length-le x h, drop_of_length-le y {i = i} (omega arith)) refl) ∙ w
+pub mark_end : (mark : ℕ) (l : List ℕ) (o : Option ℕ) (r : ℕ) → r ≡ unwrap_or o (length l) → o ≡ position (λ b. eqb b mark) l → (r ≡ length_to mark l) × (r ≤ length l)
+mark_end mark l o r u f = go (ltb n (length l)) refl
+  where
+    e : r ≡ unwrap_or (position (λ b. eqb b mark) l) (length l)
+    e = u ∙ ap (λ (x : Option ℕ). unwrap_or x (length l)) f
+
+    n : ℕ
+    n = position_or_len (λ b. eqb b mark) l
+
+    le : n ≤ length l
+    le = omega (arith, prefix_len-le-length (λ b. not (eqb b mark)) l)
+
+    go : (t : Bool) → ltb n (length l) ≡ t → (r ≡ length_to mark l) × (r ≤ length l)
+    go true h =
+        let same : r ≡ n = e ∙ rw h refl in
+        (same ∙ sym (length_to_is mark l), omega (arith, le))
+    go false h =
+        let same : r ≡ length l = e ∙ rw h refl in
+        let past = ltb-false n (length l) h in
+        let end : length l ≡ n = omega (arith, le) in
+        (same ∙ end ∙ sym (length_to_is mark l), omega arith)
+
+-- a word that is found, or an empty one
+pub found_word : (l : List ℕ) (n : ℕ) (o : Option (Bor (List ℕ))) (d r : Bor (List ℕ)) → r ≡ unwrap_or o d → d.now ≡ [] →
+    option_map (λ x. x.now) o ≡ slice_get (slice_split (λ b. eqb b 0x20) l) n → r.now ≡ word_at l n
+found_word l n o d r u e s =
+    ap (λ (x : Bor (List ℕ)). x.now) u ∙ inner o ∙ ap (unwrap_or (option_map (λ x. x.now) o)) e ∙ ap (λ (x : Option (List ℕ)). unwrap_or x []) s
+    ∙ unwrap_or-slice_get (slice_split (λ b. eqb b 0x20) l) n [] ∙ split_word l n
+  where
+    inner : (o : Option (Bor (List ℕ))) → (unwrap_or o d).now ≡ unwrap_or (option_map (λ x. x.now) o) d.now
+    inner None = refl
+    inner (Some x) = refl
 
 -- ---- numbers
 
-pub digits_more : (base : ℕ) (w : List ℕ) (i d : ℕ) → i < length w → d ≡ digit_of (get_or w i 0) → d < base →
-    all_digits base (drop i w) ≡ all_digits base w → all_digits base (drop (i + 1) w) ≡ all_digits base w
-unfolding all_digits
-digits_more base w i d h e l a =
-    let below : ltb (digit_of (get_or w i 0)) base ≡ true = lt-ltb _ _ (rw e at l) in
-    sym (rw (next_left w i h, all_digits, below) refl) ∙ a
+pub digit_below : (b : ℕ) → unwrap_or (digit_of b) 0 < 16
+unfolding digit_of
+digit_below b = grind (arith, nat_tests)
 
-pub digits_wrong : (base : ℕ) (w : List ℕ) (i d : ℕ) → i < length w → d ≡ digit_of (get_or w i 0) → base ≤ d →
-    all_digits base (drop i w) ≡ all_digits base w → false ≡ all_digits base w
-unfolding all_digits
-digits_wrong base w i d h e l a =
-    let above : ltb (digit_of (get_or w i 0)) base ≡ false = le-ltb _ _ (rw e at l) in
-    sym (rw (next_left w i h, all_digits, above) refl) ∙ a
+-- what the digits that are left say, behind digits that say v
+pub rest_of : ℕ → ℕ → ℕ → List ℕ → Option ℕ
+rest_of base most v w = cond (all_digits base w && leb (value_from base v w) most) (Some (value_from base v w)) None
 
-pub digits_all : (base : ℕ) (w : List ℕ) (i : ℕ) → length w ≤ i → all_digits base (drop i w) ≡ all_digits base w → true ≡ all_digits base w
-unfolding all_digits
-digits_all base w i h a = sym (rw (drop_of_length-le w h) refl) ∙ a
+pub rest_first : (base digits most : ℕ) (w : List ℕ) → 0 < length w → length w ≤ digits → rest_of base most 0 w ≡ numeral_of base digits most w
+unfolding numeral_of is_numeral rest_of
+rest_first base digits most w s f = rw (lt-ltb 0 (length w) s, le-leb (length w) digits f) refl
 
--- what a loop has of a number: the digits so far are digits and say v
-pub record Reads (base digits most : ℕ) (w : List ℕ) (i v : ℕ) : Type 0 where
-  pub inside : i ≤ length w
-  pub some : 0 < length w
-  pub few : length w ≤ digits
-  pub small : v ≤ most
-  pub digits_so_far : all_digits base (drop i w) ≡ all_digits base w
-  pub value : value_from base v (drop i w) ≡ value_from base 0 w
+pub read_empty : (base digits most : ℕ) (w : List ℕ) → length w ≡ 0 → None ≡ numeral_of base digits most w
+unfolding numeral_of is_numeral
+read_empty base digits most w h = rw (le-ltb 0 (length w) (omega arith)) refl
 
-value_next : (base : ℕ) (w : List ℕ) (i v d : ℕ) → i < length w → d ≡ digit_of (get_or w i 0) →
-    value_from base v (drop i w) ≡ value_from base (base * v + d) (drop (i + 1) w)
-unfolding value_from
-value_next base w i v d h e = rw (next_left w i h, value_from, e) refl
+pub read_many : (base digits most : ℕ) (w : List ℕ) → digits < length w → None ≡ numeral_of base digits most w
+unfolding numeral_of is_numeral
+read_many base digits most w h = rw (lt-ltb 0 (length w) (omega arith), lt-leb (length w) digits h) refl
 
 -- digits that follow make no number smaller
 value_least : (base : ℕ) → 1 ≤ base → (w : List ℕ) (v : ℕ) → v ≤ value_from base v w
 unfolding value_from
 value_least base h [] v = omega arith
 value_least base h (b ∷ w) v =
-    let rest = value_least base h w (base * v + digit_of b) in
+    let rest = value_least base h w (base * v + unwrap_or (digit_of b) 0) in
     let once : 1 * v ≤ base * v = mul-le-mul_right v h in
     omega (arith, rest, once)
 
--- a number has a further digit where it is at most the largest one divided by the base
-pub digit_follows : (base v most : ℕ) → (base ≡ 0 → ⊥) → v ≤ most / base → base * v ≤ most
-digit_follows base v most b h = rw (mul_comm base v) ((le-div_iff_mul-le {k = base} {x = v} {y = most} (omega (arith, b))).0 h)
+module _ (base most v b : ℕ) (w : List ℕ) where
+  pub rest_none : digit_of b ≡ None → rest_of base most v (b ∷ w) ≡ None
+  unfolding rest_of
+  rest_none e = rw (rest_of, all_digits, is_digit, e) refl
 
-no_digit_follows : (base v most d : ℕ) → (base ≡ 0 → ⊥) → most / base < v → most < base * v + d
-no_digit_follows base v most d b h =
-    let above : most < v * base = (div-lt_iff_lt-mul {k = base} {x = most} {y = v} (omega (arith, b))).0 h in
-    omega (arith, above, mul_comm base v)
+  pub rest_wrong : (d : ℕ) → digit_of b ≡ Some d → base ≤ d → rest_of base most v (b ∷ w) ≡ None
+  unfolding rest_of
+  rest_wrong d e h =
+      let no : is_digit base b ≡ false = rw (is_digit, e) (le-ltb d base h) in
+      rw (all_digits, no) refl
 
-pub reads_empty : (base digits most : ℕ) (w : List ℕ) → length w ≡ 0 → Bad ≡ numeral_of base digits most w
-unfolding numeral_of is_numeral
-reads_empty base digits most w h =
-    let none : ltb 0 (length w) ≡ false = le-ltb 0 (length w) (omega arith) in
-    rw none refl
+  pub rest_more : (d : ℕ) → digit_of b ≡ Some d → d < base → rest_of base most v (b ∷ w) ≡ rest_of base most (base * v + d) w
+  unfolding rest_of value_from
+  rest_more d e h =
+      let yes : is_digit base b ≡ true = rw (is_digit, e) (lt-ltb d base h) in
+      rw (all_digits, yes, e) refl
 
-pub reads_many : (base digits most : ℕ) (w : List ℕ) → (length w ≡ 0 → ⊥) → digits < length w → Bad ≡ numeral_of base digits most w
-unfolding numeral_of is_numeral
-reads_many base digits most w s h = rw (lt-ltb 0 (length w) (omega (arith, s)), lt-leb (length w) digits h) refl
+pub rest_large : (base most v : ℕ) (w : List ℕ) → 1 ≤ base → most < v → rest_of base most v w ≡ None
+unfolding rest_of
+rest_large base most v w h m =
+    let least = value_least base h w v in
+    rw (lt-leb (value_from base v w) most (omega (arith, least))) (never (all_digits base w))
+  where
+    never : (t : Bool) → cond (t && false) (Some (value_from base v w)) None ≡ None
+    never true = refl
+    never false = refl
 
-pub reads_baseless : (base digits most : ℕ) (w : List ℕ) → (length w ≡ 0 → ⊥) → length w ≤ digits → base ≡ 0 → Bad ≡ numeral_of base digits most w
-unfolding numeral_of is_numeral all_digits
-reads_baseless base digits most [] s h e = absurd (s refl)
-reads_baseless base digits most (b ∷ w) s h e = rw (lt-ltb 0 (length (b ∷ w)) (omega arith), le-leb (length (b ∷ w)) digits h, e, le-ltb (digit_of b) 0 (omega arith)) refl
+pub rest_all : (base most v : ℕ) → v ≤ most → rest_of base most v [] ≡ Some v
+unfolding rest_of value_from
+rest_all base most v h = rw (le-leb v most h) refl
 
-pub reads_none : (base digits most : ℕ) (w : List ℕ) → (length w ≡ 0 → ⊥) → length w ≤ digits → Reads base digits most w 0 0
-reads_none base digits most w s h = record { inside = omega arith; some = omega (arith, s); few = h; small = omega arith; digits_so_far = refl; value = refl }
+-- a turn of the loop that reads a number: at place i, behind digits that say v
+module _ (base digits most : ℕ) (w : List ℕ) (i v : ℕ) (h : i < length w) (here : rest_of base most v (drop i w) ≡ numeral_of base digits most w) where
+  turn : rest_of base most v (get_or w i 0 ∷ drop (i + 1) w) ≡ numeral_of base digits most w
+  turn = ap (rest_of base most v) (sym (next_left w i h)) ∙ here
 
-module _ (base digits most : ℕ) (w : List ℕ) (i v d : ℕ) (h : i < length w) (e : d ≡ digit_of (get_or w i 0)) where
-  pub reads_more : d < base → base * v + d ≤ most → Reads base digits most w i v → Reads base digits most w (i + 1) (base * v + d)
-  reads_more l m r = record {
-    inside = omega arith;
-    some = r.some;
-    few = r.few;
-    small = m;
-    digits_so_far = digits_more base w i d h e l r.digits_so_far;
-    value = sym (value_next base w i v d h e) ∙ r.value;
-  }
+  pub read_none : digit_of (get_or w i 0) ≡ None → None ≡ numeral_of base digits most w
+  read_none e = sym (rest_none base most v (get_or w i 0) (drop (i + 1) w) e) ∙ turn
 
-  pub reads_wrong : base ≤ d → Reads base digits most w i v → Bad ≡ numeral_of base digits most w
-  unfolding numeral_of is_numeral
-  reads_wrong l r = rw (lt-ltb _ _ r.some, le-leb _ _ r.few, ← digits_wrong base w i d h e l r.digits_so_far) refl
+  pub read_wrong : (d : ℕ) → digit_of (get_or w i 0) ≡ Some d → base ≤ d → None ≡ numeral_of base digits most w
+  read_wrong d e l = sym (rest_wrong base most v (get_or w i 0) (drop (i + 1) w) d e l) ∙ turn
 
-  pub reads_large : (base ≡ 0 → ⊥) → most < base * v + d → Reads base digits most w i v → Bad ≡ numeral_of base digits most w
-  unfolding numeral_of is_numeral
-  reads_large b m r =
-      let least = value_least base (omega (arith, b)) (drop (i + 1) w) (base * v + d) in
-      let above : most < value_from base 0 w = omega (arith, least, value_next base w i v d h e, r.value, m) in
-      rw (lt-ltb _ _ r.some, le-leb _ _ r.few, lt-leb _ _ above) (never (all_digits base w))
-    where
-      never : (t : Bool) → Bad ≡ cond (t && false) (Value (value_from base 0 w)) Bad
-      never true = refl
-      never false = refl
+  pub read_more : (d : ℕ) → digit_of (get_or w i 0) ≡ Some d → d < base → rest_of base most (base * v + d) (drop (i + 1) w) ≡ numeral_of base digits most w
+  read_more d e l = sym (rest_more base most v (get_or w i 0) (drop (i + 1) w) d e l) ∙ turn
 
-  pub reads_past : (base ≡ 0 → ⊥) → most / base < v → Reads base digits most w i v → Bad ≡ numeral_of base digits most w
-  reads_past b m r = reads_large b (no_digit_follows base v most d b m) r
+  pub read_large : (d : ℕ) → digit_of (get_or w i 0) ≡ Some d → d < base → most < base * v + d → None ≡ numeral_of base digits most w
+  read_large d e l m = sym (rest_large base most (base * v + d) (drop (i + 1) w) (omega arith) m) ∙ read_more d e l
 
-pub reads_all : (base digits most : ℕ) (w : List ℕ) (i v : ℕ) → length w ≤ i → Reads base digits most w i v → Value v ≡ numeral_of base digits most w
-unfolding numeral_of is_numeral value_from
-reads_all base digits most w i v h r =
-    let same : v ≡ value_from base 0 w = sym (rw (drop_of_length-le w h) refl) ∙ r.value in
-    let small : leb (value_from base 0 w) most ≡ true = le-leb (value_from base 0 w) most (omega (arith, r.small, same)) in
-    rw (lt-ltb _ _ r.some, le-leb _ _ r.few, ← digits_all base w i h r.digits_so_far, small) (ap Value same)
+pub read_all : (base digits most : ℕ) (w : List ℕ) (i v : ℕ) → length w ≤ i → v ≤ most → rest_of base most v (drop i w) ≡ numeral_of base digits most w →
+    Some v ≡ numeral_of base digits most w
+read_all base digits most w i v h m here = sym (rest_all base most v m) ∙ ap (rest_of base most v) (sym (drop_of_length-le w h)) ∙ here
 
 -- ---- byte strings
 
-pub pairs_empty : (w : List ℕ) → same_text w (0x2D ∷ []) ≡ false → length w ≡ 0 → false ≡ is_bytes w
-unfolding is_bytes is_pairs
-pairs_empty w d h =
-    let none : ltb 0 (length w) ≡ false = le-ltb 0 (length w) (omega arith) in
-    rw (d, none) refl
-
-pub pairs_odd : (w : List ℕ) → same_text w (0x2D ∷ []) ≡ false → (length w ≡ 0 → ⊥) → length w % 2 ≡ 1 → false ≡ is_bytes w
-unfolding is_bytes is_pairs
-pairs_odd w d h o =
-    let some : ltb 0 (length w) ≡ true = lt-ltb 0 (length w) (omega (arith, h)) in
-    let odd : eqb (length w % 2) 0 ≡ false = ne_eqb (length w % 2) 0 (λ e. absurd (omega (arith, e, o))) in
-    rw (d, some, odd) refl
-
-pub pairs_even : (w : List ℕ) (digits : Bool) → same_text w (0x2D ∷ []) ≡ false → (length w ≡ 0 → ⊥) → (length w % 2 ≡ 1 → ⊥) → digits ≡ all_digits 16 w →
-    digits ≡ is_bytes w
-unfolding is_bytes is_pairs
-pairs_even w digits d h o e =
-    let some : ltb 0 (length w) ≡ true = lt-ltb 0 (length w) (omega (arith, h)) in
-    let even : eqb (length w % 2) 0 ≡ true = eq-eqb (length w % 2) 0 (omega (arith, o)) in
-    rw (d, some, even) e
-
-pub dash_bytes : (w : List ℕ) → same_text w (0x2D ∷ []) ≡ true → true ≡ is_bytes w
-unfolding is_bytes
-dash_bytes w e = rw e refl
-
-bytes_next : (w : List ℕ) (k : ℕ) → k < length w / 2 → bytes_of (drop (2 * k) w) ≡ pair_of (get_or w (2 * k) 0) (get_or w (2 * k + 1) 0) ∷ bytes_of (drop (2 * (k + 1)) w)
+bytes_next : (w : List ℕ) → 2 ≤ length w → bytes_of w ≡ pair_of (get_or w 0 0) (get_or w 1 0) ∷ bytes_of (drop 2 w)
 unfolding bytes_of
-bytes_next w k h =
-    let two : 2 * k + 1 + 1 ≡ 2 * (k + 1) = omega arith in
-    ap bytes_of (next_left w (2 * k) (omega arith))
-    ∙ ap (λ (x : List ℕ). bytes_of (get_or w (2 * k) 0 ∷ x)) (next_left w (2 * k + 1) (omega arith))
-    ∙ ap (λ (j : ℕ). pair_of (get_or w (2 * k) 0) (get_or w (2 * k + 1) 0) ∷ bytes_of (drop j w)) two
+bytes_next [] h = absurd (omega arith)
+bytes_next (x ∷ []) h = absurd (omega arith)
+bytes_next (x ∷ (y ∷ w)) h = refl
 
-bytes_one : (w : List ℕ) → length w ≤ 1 → bytes_of w ≡ []
+bytes_none : (w : List ℕ) → length w < 2 → bytes_of w ≡ []
 unfolding bytes_of
-bytes_one [] h = refl
-bytes_one (x ∷ []) h = refl
-bytes_one (x ∷ (y ∷ w)) h = absurd (omega arith)
+bytes_none [] h = refl
+bytes_none (x ∷ []) h = refl
+bytes_none (x ∷ (y ∷ w)) h = absurd (omega arith)
 
-bytes_none : (w : List ℕ) (k : ℕ) → length w / 2 ≤ k → bytes_of (drop (2 * k) w) ≡ []
-bytes_none w k h = bytes_one (drop (2 * k) w) (omega (arith, length-drop (2 * k) w))
-
--- what a loop has decoded: k pairs
-pub record Decodes (old w : List ℕ) (k : ℕ) (buffer : List ℕ) (at : ℕ) : Type 0 where
+-- what a loop has decoded: all but the digits that are left
+pub record Decodes (old w rest buffer : List ℕ) (at : ℕ) : Type 0 where
   pub inside : at ≤ length buffer
   pub size : length buffer ≡ length old
-  pub puts : Putting old 0 (bytes_of w) (bytes_of (drop (2 * k) w)) buffer at
+  pub puts : Putting old 0 (bytes_of w) (bytes_of rest) buffer at
 
-pub decodes_none : (old w : List ℕ) → Decodes old w 0 old 0
+pub decodes_none : (old w : List ℕ) → Decodes old w w old 0
 decodes_none old w = record { inside = omega arith; size = refl; puts = putting_none old 0 (bytes_of w) }
 
-pub decodes_more : (old w : List ℕ) (k : ℕ) (buffer : List ℕ) (at b : ℕ) (new : List ℕ) (r : ℕ) → k < length w / 2 →
-    b ≡ pair_of (get_or w (2 * k) 0) (get_or w (2 * k + 1) 0) → Puts buffer at (b ∷ []) new r → Decodes old w k buffer at → Decodes old w (k + 1) new r
-decodes_more old w k buffer at b new r h e p d = record {
+pub decodes_more : (old w rest buffer : List ℕ) (at b : ℕ) (new : List ℕ) (r : ℕ) (left : List ℕ) → 2 ≤ length rest →
+    b ≡ pair_of (get_or rest 0 0) (get_or rest 1 0) → Puts buffer at (b ∷ []) new r → Decodes old w rest buffer at → left ≡ drop 2 rest → Decodes old w left new r
+decodes_more old w rest buffer at b new r left h e p d same = record {
   inside = rw (p.place, puts_length buffer at (b ∷ []) new r p) (after_inside (length buffer) at (b ∷ []) d.inside);
   size = puts_length buffer at (b ∷ []) new r p ∙ d.size;
-  puts = putting_more old 0 (bytes_of w) buffer at (b ∷ []) (bytes_of (drop (2 * (k + 1)) w)) new r
-      (rw (bytes_next w k h, ← e) at d.puts) p;
+  puts = rw same (putting_more old 0 (bytes_of w) buffer at (b ∷ []) (bytes_of (drop 2 rest)) new r
+      (rw (bytes_next rest h, ← e) at d.puts) p);
 }
 
-pub decodes_all : (old w : List ℕ) (k : ℕ) (buffer : List ℕ) (at : ℕ) → length w / 2 ≤ k → Decodes old w k buffer at →
+pub decodes_all : (old w rest buffer : List ℕ) (at : ℕ) → length rest < 2 → Decodes old w rest buffer at →
     Puts old 0 (bytes_of w) buffer at × IsPrefixLen at buffer
-decodes_all old w k buffer at h d =
-    (putting_all old 0 (bytes_of w) buffer at (rw (bytes_none w k h) at d.puts), (d.inside, sym (length-take-le at buffer d.inside)))
+decodes_all old w rest buffer at h d =
+    (putting_all old 0 (bytes_of w) buffer at (rw (bytes_none rest h) at d.puts), (d.inside, sym (length-take-le at buffer d.inside)))

@@ -1,6 +1,6 @@
 -- Laws of Lines.antt: what a command asks for is there.
 -- Assumes nothing.
-use Rattle.std.specs.Prelude.{◌≡◌, refl, Bool, true, false, cond, ◌&&◌, List, [], ◌∷◌, ◌++◌, ℕ, zero, suc, min, ◌+◌, ◌≤◌, ◌<◌, ltb, leb, eqb, length, get_or, take, drop}
+use Rattle.std.specs.Prelude.{◌≡◌, refl, Option, None, Some, unwrap_or, option_map, not, Bool, true, false, cond, ◌&&◌, List, [], ◌∷◌, ◌++◌, ℕ, zero, suc, min, ◌+◌, ◌≤◌, ◌<◌, ltb, leb, eqb, length, get_or, take, drop, position}
 use Rattle.std.proofs.Common.{sym, subst, ◌∙◌, arith, leb-true, ltb-true}
 use Rattle.calls.specs.declared.Request.{Request}
 use Rattle.calls.specs.declared.Request.TheVariants.{Set, Reset, PowerLost, Update, Lock}
@@ -15,15 +15,14 @@ use Rattle.script.specs.declared.command.Lent.TheVariants.{Nothing, Word, Room}
 use Rattle.script.specs.declared.command.Part.TheVariants.{Chip}
 use Rattle.script.specs.declared.command.Entry.{Entry}
 use Rattle.script.specs.declared.command.Entry.TheVariants.{Member, Bus, Pins, Lock as LockMark}
-use Rattle.script.specs.declared.numbers.Number.{Number}
-use Rattle.script.specs.declared.numbers.Number.TheVariants.{Value, Bad as NoNumber}
-use Rattle.script.specs.declared.lines.Three.TheVariants.{Bad as NotAll}
+use Rattle.script.specs.declared.lines.NumberKind.{NumberKind}
+use Rattle.std.specs.List.{position_or_len}
 use Rattle.script.specs.Words.{codes, word_at, word_count, same_text}
 use Rattle.script.specs.Numbers.{all_digits, value_from, is_numeral, numeral_of}
 use Rattle.script.specs.Bytes.{is_bytes}
 use Rattle.script.specs.Table.{place_of}
 use Rattle.script.specs.Lines.{bytes, part, entry, on_off, number_kinds, kind_among, parts, entries, header_line, switches}
-use Rattle.script.specs.Lines.{Row, lines, first_words, no_line, line_at, named_of, numeral_by, argument_of, value_at, three_of, arguments_of, call_at, called_by, judged, is_silent, table_line, line_of}
+use Rattle.script.specs.Lines.{Row, lines, first_words, no_line, line_at, numeral_by, argument_of, value_at, three_of, arguments_of, call_at, called_by, judged, is_silent, table_line, line_of}
 
 -- ---- what a command asks for is there: the line of a byte string has at most 8,192 bytes, a buffer at most 8,192, a byte that is put
 -- behind the calls' back is one, at an address below 908, and there are four panels
@@ -71,13 +70,18 @@ Fits l (Aside x) = AsideFits l x
 Fits l (Panel k) = k < 4
 Fits l (Round p b n) = (p < 16) × (n ≤ 8192)
 
+-- the largest number of a kind, where it is one of numbers
+kind_most : Option NumberKind → ℕ
+kind_most None = 0
+kind_most (Some x) = x.most
+
 -- the most that a word of a kind says
 most_of : ℕ → ℕ
 most_of k =
     cond (eqb k bytes) 0
     (cond (eqb k part) (length parts)
     (cond (eqb k entry) (length entries)
-    (cond (eqb k on_off) (length switches) (kind_among number_kinds k).most)))
+    (cond (eqb k on_off) (length switches) (kind_most (kind_among number_kinds k)))))
 
 most_at : List ℕ → ℕ → ℕ
 most_at ks n = cond (ltb n (length ks)) (most_of (get_or ks n 0)) 0
@@ -108,7 +112,7 @@ each_joined l (r ∷ rs) ss a b c h t = (h.0, each_joined l rs ss a b c h.1 t)
 
 -- the rows before `header`, it, and those behind it
 each_line_fits : (l : List ℕ) (a b c : ℕ) → length l ≤ 8192 → EachFits l lines a b c
-unfolding EachFits lines call_within Fits CommandFits AsideFits LentFits BufferFits most_at most_of parts entries switches number_kinds kind_among
+unfolding EachFits lines call_within Fits CommandFits AsideFits LentFits BufferFits most_at most_of kind_most parts entries switches number_kinds kind_among
 each_line_fits l a b c h = each_joined l (take 16 lines) (drop 16 lines) a b c (omega arith) (header_fits l _ _ (omega arith), omega arith)
 
 row_fits : (l : List ℕ) (rs : List Row) (k a b c : ℕ) → EachFits l rs a b c → Fits l (call_within (get_or rs k no_line) a b c)
@@ -118,22 +122,22 @@ row_fits l (r ∷ rs) zero a b c h = h.0
 row_fits l (r ∷ rs) (suc k) a b c h = row_fits l rs k a b c h.1
 
 -- a number that a word says, where it says one, is at most so large
-Most : Number → ℕ → Type 0
-Most x m = (v : ℕ) → x ≡ Value v → v ≤ m
+Most : Option ℕ → ℕ → Type 0
+Most x m = (v : ℕ) → x ≡ Some v → v ≤ m
 
-most_value : (v m : ℕ) → v ≤ m → Most (Value v) m
+most_value : (v m : ℕ) → v ≤ m → Most (Some v) m
 unfolding Most
 most_value v m h w e = let same : v ≡ w = cc in omega arith
 
-most_bad : (m : ℕ) → Most NoNumber m
+most_none : (m : ℕ) → Most None m
 unfolding Most
-most_bad m w e = let z : ◌≡◌ {A = ℕ} 0 1 = cc in absurd (omega arith)
+most_none m w e = let z : ◌≡◌ {A = ℕ} 0 1 = cc in absurd (omega arith)
 
-most_when : (t : Bool) (v m : ℕ) → (t ≡ true → v ≤ m) → Most (cond t (Value v) NoNumber) m
+most_when : (t : Bool) (v m : ℕ) → (t ≡ true → v ≤ m) → Most (cond t (Some v) None) m
 most_when true v m h = most_value v m (h refl)
-most_when false v m h = most_bad m
+most_when false v m h = most_none m
 
-most_either : (t : Bool) (x y : Number) (m n : ℕ) → Most x m → Most y n → Most (cond t x y) (cond t m n)
+most_either : (t : Bool) (x y : Option ℕ) (m n : ℕ) → Most x m → Most y n → Most (cond t x y) (cond t m n)
 most_either true x y m n p q = p
 most_either false x y m n p q = q
 
@@ -141,26 +145,29 @@ numeral_most : (base digits most : ℕ) (w : List ℕ) → Most (numeral_of base
 unfolding numeral_of is_numeral
 numeral_most base digits most w = go (ltb 0 (length w)) (leb (length w) digits) (all_digits base w) (leb (value_from base 0 w) most) refl
   where
-    go : (s f d t : Bool) → leb (value_from base 0 w) most ≡ t → Most (cond (s && (f && (d && t))) (Value (value_from base 0 w)) NoNumber) most
+    go : (s f d t : Bool) → leb (value_from base 0 w) most ≡ t → Most (cond (s && (f && (d && t))) (Some (value_from base 0 w)) None) most
     go true true true t e = most_when t (value_from base 0 w) most (λ h. leb-true (value_from base 0 w) most (e ∙ h))
-    go true true false t e = most_bad most
-    go true false d t e = most_bad most
-    go false f d t e = most_bad most
+    go true true false t e = most_none most
+    go true false d t e = most_none most
+    go false f d t e = most_none most
 
-named_most : (w : List ℕ) (names : List (List ℕ)) → Most (named_of w names) (length names)
-unfolding named_of
-named_most w names =
-    most_when (ltb (place_of w names) (length names)) (place_of w names) (length names)
-    (λ h. let inside = ltb-true (place_of w names) (length names) h in omega arith)
+place_most : (w : List ℕ) (names : List (List ℕ)) → Most (place_of w names) (length names)
+place_most w names =
+    let n = position_or_len (λ (x : List ℕ). same_text w x) names in
+    most_when (ltb n (length names)) n (length names) (λ h. let inside = ltb-true n (length names) h in omega arith)
+
+kind_within : (x : Option NumberKind) (w : List ℕ) → Most (numeral_by x w) (kind_most x)
+unfolding numeral_by kind_most
+kind_within None w = most_none 0
+kind_within (Some x) w = numeral_most x.base x.digits x.most w
 
 argument_most : (k : ℕ) (w : List ℕ) → Most (argument_of k w) (most_of k)
-unfolding argument_of most_of numeral_by
+unfolding argument_of most_of
 argument_most k w =
-    let x = kind_among number_kinds k in
     most_either (eqb k bytes) _ _ _ _ (most_when (is_bytes w) 0 0 (λ h. omega arith))
-    (most_either (eqb k part) _ _ _ _ (named_most w parts)
-    (most_either (eqb k entry) _ _ _ _ (named_most w entries)
-    (most_either (eqb k on_off) _ _ _ _ (named_most w switches) (numeral_most x.base x.digits x.most w))))
+    (most_either (eqb k part) _ _ _ _ (place_most w parts)
+    (most_either (eqb k entry) _ _ _ _ (place_most w entries)
+    (most_either (eqb k on_off) _ _ _ _ (place_most w switches) (kind_within (kind_among number_kinds k) w))))
 
 value_most : (ks l : List ℕ) (n : ℕ) → Most (value_at ks l n) (most_at ks n)
 unfolding value_at most_at
@@ -178,27 +185,32 @@ call_fits : (l : List ℕ) (k a b c : ℕ) → length l ≤ 8192 → a ≤ most_
 unfolding call_at line_at
 call_fits l k a b c h ha hb hc = subst (Fits l) (within_is (line_at k) a b c ha hb hc) (row_fits l lines k a b c (each_line_fits l a b c h))
 
-judged_fits : (l : List ℕ) (k : ℕ) → length l ≤ 8192 → Fits l (judged k l)
-unfolding judged arguments_of three_of called_by Fits CommandFits Most
+judged_fits : (l : List ℕ) (k : ℕ) → length l ≤ 8192 → Fits l (unwrap_or (judged k l) (Run Bad))
+unfolding judged arguments_of three_of Fits CommandFits Most
 judged_fits l k h = go (eqb (word_count l) (length ks + 1)) (value_at ks l 0) (value_at ks l 1) (value_at ks l 2) (value_most ks l 0) (value_most ks l 1) (value_most ks l 2)
   where
     ks : List ℕ
     ks = (line_at k).kinds
 
-    go : (t : Bool) (x y z : Number) → Most x (most_at ks 0) → Most y (most_at ks 1) → Most z (most_at ks 2) →
-        Fits l (called_by k (cond t (three_of x y z) NotAll))
-    go true (Value a) (Value b) (Value c) p q r = call_fits l k a b c h (p a refl) (q b refl) (r c refl)
-    go true (Value a) (Value b) NoNumber p q r = omega arith
-    go true (Value a) NoNumber z p q r = omega arith
-    go true NoNumber y z p q r = omega arith
+    go : (t : Bool) (x y z : Option ℕ) → Most x (most_at ks 0) → Most y (most_at ks 1) → Most z (most_at ks 2) →
+        Fits l (unwrap_or (option_map (λ (w : ℕ × ℕ × ℕ). call_at k w.0 w.1 w.2) (cond t (three_of x y z) None)) (Run Bad))
+    go true (Some a) (Some b) (Some c) p q r = call_fits l k a b c h (p a refl) (q b refl) (r c refl)
+    go true (Some a) (Some b) None p q r = omega arith
+    go true (Some a) None z p q r = omega arith
+    go true None y z p q r = omega arith
     go false x y z p q r = omega arith
+
+called_fits : (l : List ℕ) (p : Option ℕ) → length l ≤ 8192 → Fits l (unwrap_or (called_by p l) (Run Bad))
+unfolding called_by Fits CommandFits
+called_fits l None h = omega arith
+called_fits l (Some k) h = judged_fits l k h
 
 table_fits : (l : List ℕ) → Fits l (table_line l)
 unfolding table_line Fits CommandFits
 table_fits l = go (leb (length l) 8192) refl
   where
-    go : (t : Bool) → leb (length l) 8192 ≡ t → Fits l (cond t (judged (place_of (word_at l 0) first_words) l) (Run Bad))
-    go true e = judged_fits l (place_of (word_at l 0) first_words) (leb-true (length l) 8192 e)
+    go : (t : Bool) → leb (length l) 8192 ≡ t → Fits l (cond t (unwrap_or (called_by (place_of (word_at l 0) first_words) l) (Run Bad)) (Run Bad))
+    go true e = called_fits l (place_of (word_at l 0) first_words) (leb-true (length l) 8192 e)
     go false e = omega arith
 
 line_fits : (l : List ℕ) → Fits l (line_of l)

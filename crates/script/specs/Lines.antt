@@ -1,6 +1,6 @@
 -- The lines of a script: docs/REPLAY.md's table, a row a line. l is the ASCII codes of a line, w those of a word.
 -- Assumes nothing.
-use Rattle.std.specs.Prelude.{Bool, cond, ◌&&◌, ◌||◌, List, [], ◌∷◌, map, ℕ, ◌+◌, ◌-◌, eqb, ltb, leb, length, get_or, take}
+use Rattle.std.specs.Prelude.{Bool, cond, ◌&&◌, ◌||◌, List, [], ◌∷◌, map, ℕ, ◌+◌, ◌-◌, eqb, ltb, leb, length, get_or, take, Option, None, Some, unwrap_or, option_map}
 use Prim.Native.Char.{code}
 use Prim.Native.String.{String}
 use Rattle.calls.specs.declared.Setting.TheVariants.{Register, Lamp, Group, Switch, Scene}
@@ -14,11 +14,7 @@ use Rattle.script.specs.declared.command.Part.{Part}
 use Rattle.script.specs.declared.command.Part.TheVariants.{Settings, Image, Chip}
 use Rattle.script.specs.declared.command.Entry.{Entry}
 use Rattle.script.specs.declared.command.Entry.TheVariants.{Member, Bus, Pins, Lock as LockMark}
-use Rattle.script.specs.declared.numbers.Number.{Number}
-use Rattle.script.specs.declared.numbers.Number.TheVariants.{Value, Bad as NoNumber}
 use Rattle.script.specs.declared.lines.NumberKind.{NumberKind}
-use Rattle.script.specs.declared.lines.Three.{Three}
-use Rattle.script.specs.declared.lines.Three.TheVariants.{Values, Bad as NotAll}
 use Rattle.script.specs.Words.{codes, word_at, word_count, same_text}
 use Rattle.script.specs.Numbers.{numeral_of}
 use Rattle.script.specs.Bytes.{is_bytes}
@@ -91,10 +87,10 @@ number_kinds =
     ∷ kind marks 10 8192 15
     ∷ []
 
--- the kind of letter k; where there is none, one that has no numbers
-unfoldable pub kind_among : List NumberKind → ℕ → NumberKind
-kind_among [] k = kind k 0 0 0
-kind_among (x ∷ xs) k = cond (eqb x.letter k) x (kind_among xs k)
+-- the kind of letter k, where there is one
+unfoldable pub kind_among : List NumberKind → ℕ → Option NumberKind
+kind_among [] k = None
+kind_among (x ∷ xs) k = cond (eqb x.letter k) (Some x) (kind_among xs k)
 
 -- the words of W, and what each of them names
 unfoldable pub parts : List (List ℕ)
@@ -183,48 +179,46 @@ line_at k = get_or lines k no_line
 
 -- ---- how a line is judged
 
--- the place of a word among others
-unfoldable pub named_of : List ℕ → List (List ℕ) → Number
-named_of w names = cond (ltb (place_of w names) (length names)) (Value (place_of w names)) NoNumber
-
--- the number that a word says
-unfoldable pub numeral_by : NumberKind → List ℕ → Number
-numeral_by x w = numeral_of x.base x.digits x.most w
+-- the number that a word says, where its kind is one of numbers
+unfoldable pub numeral_by : Option NumberKind → List ℕ → Option ℕ
+numeral_by None w = None
+numeral_by (Some x) w = numeral_of x.base x.digits x.most w
 
 -- what a word of a kind says; a byte string says 0, since its bytes are lent
-unfoldable pub argument_of : ℕ → List ℕ → Number
+unfoldable pub argument_of : ℕ → List ℕ → Option ℕ
 argument_of k w =
-    cond (eqb k bytes) (cond (is_bytes w) (Value 0) NoNumber)
-    (cond (eqb k part) (named_of w parts)
-    (cond (eqb k entry) (named_of w entries)
-    (cond (eqb k on_off) (named_of w switches) (numeral_by (kind_among number_kinds k) w))))
+    cond (eqb k bytes) (cond (is_bytes w) (Some 0) None)
+    (cond (eqb k part) (place_of w parts)
+    (cond (eqb k entry) (place_of w entries)
+    (cond (eqb k on_off) (place_of w switches) (numeral_by (kind_among number_kinds k) w))))
 
 -- what word n behind the first says; 0 where the row has none
-unfoldable pub value_at : List ℕ → List ℕ → ℕ → Number
-value_at ks l n = cond (ltb n (length ks)) (argument_of (get_or ks n 0) (word_at l (n + 1))) (Value 0)
+unfoldable pub value_at : List ℕ → List ℕ → ℕ → Option ℕ
+value_at ks l n = cond (ltb n (length ks)) (argument_of (get_or ks n 0) (word_at l (n + 1))) (Some 0)
 
 -- three words, where each of them says something
-unfoldable pub three_of : Number → Number → Number → Three
-three_of (Value a) (Value b) (Value c) = Values a b c
-three_of (Value a) (Value b) NoNumber = NotAll
-three_of (Value a) NoNumber z = NotAll
-three_of NoNumber y z = NotAll
+unfoldable pub three_of : Option ℕ → Option ℕ → Option ℕ → Option (ℕ × ℕ × ℕ)
+three_of (Some a) (Some b) (Some c) = Some (a, b, c)
+three_of (Some a) (Some b) None = None
+three_of (Some a) None z = None
+three_of None y z = None
 
 -- "A line that is no call": one with more or fewer words than its row, or with a word that is not of its kind, is none
-unfoldable pub arguments_of : List ℕ → List ℕ → Three
-arguments_of ks l = cond (eqb (word_count l) (length ks + 1)) (three_of (value_at ks l 0) (value_at ks l 1) (value_at ks l 2)) NotAll
+unfoldable pub arguments_of : List ℕ → List ℕ → Option (ℕ × ℕ × ℕ)
+arguments_of ks l = cond (eqb (word_count l) (length ks + 1)) (three_of (value_at ks l 0) (value_at ks l 1) (value_at ks l 2)) None
 
 -- what a line of row k is
 unfoldable pub call_at : ℕ → ℕ → ℕ → ℕ → Line
 call_at k a b c = (line_at k).call a b c
 
-unfoldable pub called_by : ℕ → Three → Line
-called_by k (Values a b c) = call_at k a b c
-called_by k NotAll = Run Bad
-
 -- a line whose first word is that of row k
-unfoldable pub judged : ℕ → List ℕ → Line
-judged k l = called_by k (arguments_of (line_at k).kinds l)
+unfoldable pub judged : ℕ → List ℕ → Option Line
+judged k l = option_map (λ (w : ℕ × ℕ × ℕ). call_at k w.0 w.1 w.2) (arguments_of (line_at k).kinds l)
+
+-- a line, by the row that its first word has
+unfoldable pub called_by : Option ℕ → List ℕ → Option Line
+called_by None l = None
+called_by (Some k) l = judged k l
 
 -- "a CR right before the LF is dropped"
 unfoldable pub without_cr : List ℕ → List ℕ
@@ -236,7 +230,7 @@ is_silent l = eqb (length l) 0 || eqb (get_or l 0 0) (code "#")
 
 -- "Words are judged before the call", and a line of "more than 8,192 bytes (its LF not counted) prints `?`"
 unfoldable pub table_line : List ℕ → Line
-table_line l = cond (leb (length l) 8192) (judged (place_of (word_at l 0) first_words) l) (Run Bad)
+table_line l = cond (leb (length l) 8192) (unwrap_or (called_by (place_of (word_at l 0) first_words) l) (Run Bad)) (Run Bad)
 
 -- any line; "`lamps` alone is `lamps chip`"
 unfoldable pub line_of : List ℕ → Line

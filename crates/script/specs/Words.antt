@@ -1,6 +1,6 @@
 -- The words of a line: "Words are separated by single spaces". A line is a list of ASCII codes, l; a space is 20h.
 -- Assumes nothing.
-use Rattle.std.specs.Prelude.{Bool, true, false, cond, ◌&&◌, List, [], ◌∷◌, ℕ, zero, suc, ◌+◌, eqb, take, drop}
+use Rattle.std.specs.Prelude.{Bool, true, false, List, [], ◌∷◌, ℕ, zero, suc, ◌+◌, eqb, take, drop, count_by, bytes_eq}
 use Prim.Native.Char.{code}
 use Prim.Native.String.{String, [] as none, ◌∷◌ as ◌then◌}
 
@@ -27,18 +27,10 @@ unfoldable pub word_at : List ℕ → ℕ → List ℕ
 word_at l zero = first_word l
 word_at l (suc n) = word_at (behind l) n
 
--- 1 for a space
-unfoldable pub space_of : ℕ → ℕ
-space_of b = cond (eqb b 0x20) 1 0
-
 -- one word more than spaces
-unfoldable pub word_count : List ℕ → ℕ
-word_count [] = 1
-word_count (b ∷ l) = space_of b + word_count l
+abbrev pub word_count : List ℕ → ℕ
+word_count l = 1 + count_by (λ b. eqb b 0x20) l
 
 -- two texts that are one
-unfoldable pub same_text : List ℕ → List ℕ → Bool
-same_text [] [] = true
-same_text [] (y ∷ ys) = false
-same_text (x ∷ xs) [] = false
-same_text (x ∷ xs) (y ∷ ys) = eqb x y && same_text xs ys
+abbrev pub same_text : List ℕ → List ℕ → Bool
+same_text x y = bytes_eq x y

@@ -6,40 +6,26 @@ ghost use Rattle.text.specs.Text.{Puts};
 ghost use Rattle.io.specs.Counts.{IsPrefixLen};
 
 use crate::numbers::digit;
-use crate::words::same;
 
 fn all_digits(word: &[u8]) -> bool
     ensures { result ≡ all_digits 16 word.now }
 {
-    let mut i = 0;
-    while i < word.len() {
-        if 16 <= digit(word[i]) {
-            return false;
-        }
-        i += 1;
-    }
-    true
+    word.iter()
+        .all(|byte| digit(*byte).is_some_and(|value| value < 16))
 }
 
+#[tactic(auto, unfolding(crate::specs::Bytes::is_bytes, crate::specs::Bytes::is_pairs))]
 pub(crate) fn is_bytes(word: &[u8]) -> bool
     ensures { result ≡ is_bytes word.now }
 {
-    if same(word, b"-") {
-        return true;
-    }
-    if word.len() == 0 {
-        return false;
-    }
-    if word.len() % 2 == 1 {
-        return false;
-    }
-    all_digits(word)
+    word == b"-".as_slice() || (!word.is_empty() && word.len() % 2 == 0 && all_digits(word))
 }
 
+#[tactic(auto, using(crate::proofs::Reading::digit_below), unfolding(crate::specs::Bytes::pair_of))]
 fn pair(high: u8, low: u8) -> u8
     ensures { result ≡ pair_of high low }
 {
-    (digit(high) % 16 * 16 + digit(low) % 16) as u8
+    (digit(high).unwrap_or(0) * 16 + digit(low).unwrap_or(0)) as u8
 }
 
 // The bytes of a byte string, at the front of a buffer. It answers how many.
@@ -48,10 +34,10 @@ pub fn decode(word: &[u8], buffer: &mut [u8]) -> usize
     ensures prefix_len { IsPrefixLen result buffer.new }
 {
     let mut at = 0;
-    let mut k = 0;
-    while k < word.len() / 2 {
-        at = text::put(buffer, at, pair(word[2 * k], word[2 * k + 1]));
-        k += 1;
+    let mut rest = word;
+    while let [high, low, behind @ ..] = rest {
+        at = text::put(buffer, at, pair(*high, *low));
+        rest = behind;
     }
     at
 }

@@ -8,7 +8,6 @@ mod bytes;
 mod command;
 mod lines;
 mod numbers;
-mod table;
 mod words;
 
 pub use bytes::decode;

@@ -1,14 +1,14 @@
 // The lines of a script, one table: the first word of a line, the kinds of its other words, and the command that the line is. A line that no
 // row fits is bad. A new line is a row of LINES and an arm, a new kind of numbers a row of NUMBERS.
-ghost use Rattle.std.specs.Prelude.{◌≡◌, ◌+◌};
-ghost use Rattle.script.specs.Table.{column_of};
-ghost use Rattle.script.specs.Lines.{number_kinds, kind_among, numeral_by, first_words, other_kinds, named_of, argument_of, value_at, three_of, arguments_of};
-ghost use Rattle.script.specs.Lines.{part_at, entry_at, header_line, call_at, without_cr, is_silent, line_of};
+ghost use Rattle.std.specs.Prelude.{◌≡◌, ◌+◌, map, get_or, []};
+ghost use Rattle.script.specs.Words.{word_at};
+ghost use Rattle.script.specs.Table.{place_of};
+ghost use Rattle.script.specs.Lines.{number_kinds, kind_among, numeral_by, first_words, other_kinds, argument_of, value_at, arguments_of};
+ghost use Rattle.script.specs.Lines.{part_at, entry_at, header_line, call_at, called_by, without_cr, is_silent, line_of};
 
 use crate::bytes::is_bytes;
 use crate::command::{Aside, Command, Entry, Lent, Line, Part};
-use crate::numbers::Number;
-use crate::{numbers, table, words};
+use crate::{numbers, words};
 use calls::{Request, Setting};
 
 // The longest line that is a call, its LF not counted.
@@ -24,9 +24,7 @@ struct NumberKind {
     most: usize,
 }
 
-const NUMBER_KINDS: usize = 8;
-
-const NUMBERS: [NumberKind; NUMBER_KINDS] = [
+static NUMBERS: [NumberKind; 8] = [
     // a number
     NumberKind {
         letter: b'd',
@@ -94,78 +92,70 @@ const ENTRY: u8 = b'e';
 // `on` or `off`
 const ON_OFF: u8 = b'o';
 
-const ROWS: usize = 28;
+// The first word of a line, and the kinds of its other words.
+#[derive(Clone, Copy)]
+struct Form(&'static [u8], &'static [u8]);
 
-// The first word of each line, and the kinds of its other words. The settings that are lent nothing stand first: row n is arm n of `call`,
-// and row 4 + n arm n of `other`.
-const LINES: [u8; 16 * ROWS] = *b"\
-    register hb     \
-    lamp ddd        \
-    group ddd       \
-    switch ddd      \
-    open ddd        \
-    scene s         \
-    update r        \
-    reset r         \
-    power           \
-    clear r         \
-    feed s          \
-    faults sr       \
-    settings        \
-    image           \
-    chip            \
-    poke pab        \
-    header en       \
-    check           \
-    lamps p         \
-    diff            \
-    faultmap s      \
-    echo o          \
-    list            \
-    pending         \
-    panel k         \
-    round mdr       \
-    lock            \
-    marks           ";
+// The settings that are lent nothing stand first: row n is arm n of `call`, and row 4 + n arm n of `other`.
+static LINES: [Form; 28] = [
+    Form(b"register", b"hb"),
+    Form(b"lamp", b"ddd"),
+    Form(b"group", b"ddd"),
+    Form(b"switch", b"ddd"),
+    Form(b"open", b"ddd"),
+    Form(b"scene", b"s"),
+    Form(b"update", b"r"),
+    Form(b"reset", b"r"),
+    Form(b"power", b""),
+    Form(b"clear", b"r"),
+    Form(b"feed", b"s"),
+    Form(b"faults", b"sr"),
+    Form(b"settings", b""),
+    Form(b"image", b""),
+    Form(b"chip", b""),
+    Form(b"poke", b"pab"),
+    Form(b"header", b"en"),
+    Form(b"check", b""),
+    Form(b"lamps", b"p"),
+    Form(b"diff", b""),
+    Form(b"faultmap", b"s"),
+    Form(b"echo", b"o"),
+    Form(b"list", b""),
+    Form(b"pending", b""),
+    Form(b"panel", b"k"),
+    Form(b"round", b"mdr"),
+    Form(b"lock", b""),
+    Form(b"marks", b""),
+];
 
 // What a line is, by its row and what its other words say.
+#[tactic(auto, unfolding(crate::specs::Lines::call_at, crate::specs::Lines::line_at, crate::specs::Lines::lines))]
 fn call(row: usize, first: usize, second: usize, third: usize) -> Line
     ensures { result ≡ call_at row first second third }
 {
-    match row {
-        0 => Line::Run(Command::Call(
-            Request::Set(Setting::Register {
-                address: first,
-                value: second,
-            }),
-            Lent::Nothing,
-        )),
-        1 => Line::Run(Command::Call(
-            Request::Set(Setting::Lamp {
-                line: first,
-                sink: second,
-                level: third,
-            }),
-            Lent::Nothing,
-        )),
-        2 => Line::Run(Command::Call(
-            Request::Set(Setting::Group {
-                line: first,
-                sink: second,
-                group: third,
-            }),
-            Lent::Nothing,
-        )),
-        3 => Line::Run(Command::Call(
-            Request::Set(Setting::Switch {
-                line: first,
-                sink: second,
-                state: third,
-            }),
-            Lent::Nothing,
-        )),
-        _ => other(row - 4, first, second, third),
-    }
+    let setting = match row {
+        0 => Setting::Register {
+            address: first,
+            value: second,
+        },
+        1 => Setting::Lamp {
+            line: first,
+            sink: second,
+            level: third,
+        },
+        2 => Setting::Group {
+            line: first,
+            sink: second,
+            group: third,
+        },
+        3 => Setting::Switch {
+            line: first,
+            sink: second,
+            state: third,
+        },
+        _ => return other(row - 4, first, second, third),
+    };
+    Line::Run(Command::Call(Request::Set(setting), Lent::Nothing))
 }
 
 fn other(place: usize, first: usize, second: usize, third: usize) -> Line
@@ -200,6 +190,7 @@ fn other(place: usize, first: usize, second: usize, third: usize) -> Line
     }
 }
 
+#[tactic(auto, unfolding(crate::specs::Lines::part_at))]
 fn part(place: usize) -> Part
     ensures { result ≡ part_at place }
 {
@@ -210,6 +201,7 @@ fn part(place: usize) -> Part
     }
 }
 
+#[tactic(auto, unfolding(crate::specs::Lines::entry_at))]
 fn entry(place: usize) -> Entry
     ensures { result ≡ entry_at place }
 {
@@ -222,174 +214,137 @@ fn entry(place: usize) -> Entry
 }
 
 // What `header W V` is: a lock's mark above 1 makes it bad.
+#[tactic(auto, unfolding(crate::specs::Lines::header_line))]
 fn header(entry: Entry, value: usize) -> Line
     ensures { result ≡ header_line entry value }
 {
     match entry {
-        Entry::Member => Line::Run(Command::Header(entry, value)),
-        Entry::Bus => Line::Run(Command::Header(entry, value)),
-        Entry::Pins => Line::Run(Command::Header(entry, value)),
-        Entry::Lock => if value <= 1 {
-            Line::Run(Command::Header(entry, value))
-        } else {
-            Line::Run(Command::Bad)
-        }
+        Entry::Lock if 1 < value => Line::Run(Command::Bad),
+        _ => Line::Run(Command::Header(entry, value)),
     }
 }
 
-// The place of a word in a table, where it has one.
-fn named(word: &[u8], table: &[u8]) -> Number
-    ensures { result ≡ named_of word.now (column_of table.now 0) }
+// The place of a word among others, where it is one of them.
+fn named(word: &[u8], names: &[&[u8]]) -> Option<usize>
+    ensures { result ≡ place_of word.now (map (λ x. x.now) names.now) }
 {
-    let place = table::find(word, table);
-    if place < table.len() / 16 {
-        Number::Value(place)
-    } else {
-        Number::Bad
-    }
+    names.iter().position(|name| word == *name)
 }
 
-// The kind of numbers that has a letter; one of no digits where none has it.
-fn number_kind(letter: u8) -> NumberKind
+// The kind of numbers that has a letter.
+fn number_kind(letter: u8) -> Option<NumberKind>
     ensures { result ≡ kind_among number_kinds letter }
 {
-    let kinds = NUMBERS;
-    let mut k = 0;
-    while k < NUMBER_KINDS {
-        let kind = kinds[k];
-        if kind.letter == letter {
-            return kind;
-        }
-        k += 1;
-    }
-    NumberKind {
-        letter,
-        base: 0,
-        digits: 0,
-        most: 0,
-    }
+    NUMBERS.iter().find(|kind| kind.letter == letter).copied()
 }
 
-fn number(letter: u8, word: &[u8]) -> Number
+#[tactic(auto, unfolding(crate::specs::Lines::numeral_by))]
+fn number(letter: u8, word: &[u8]) -> Option<usize>
     ensures { result ≡ numeral_by (kind_among number_kinds letter) word.now }
 {
-    let kind = number_kind(letter);
+    let kind = number_kind(letter)?;
     numbers::read(word, kind.base, kind.digits, kind.most)
 }
 
 // What a word of a kind says; a byte string stays in its line, and says 0.
-fn argument(kind: u8, word: &[u8]) -> Number
+#[tactic(auto, unfolding(crate::specs::Lines::argument_of, crate::specs::Lines::parts, crate::specs::Lines::entries, crate::specs::Lines::switches, crate::specs::Words::codes))]
+fn argument(kind: u8, word: &[u8]) -> Option<usize>
     ensures { result ≡ argument_of kind word.now }
 {
     match kind {
-        BYTES => if is_bytes(word) {
-            Number::Value(0)
-        } else {
-            Number::Bad
-        }
-        PART => named(word, b"settings        image           chip            "),
-        ENTRY => named(
-            word,
-            b"member          bus             pins            lock            ",
-        ),
-        ON_OFF => named(word, b"on              off             "),
+        BYTES => is_bytes(word).then_some(0),
+        PART => named(word, &[b"settings", b"image", b"chip"]),
+        ENTRY => named(word, &[b"member", b"bus", b"pins", b"lock"]),
+        ON_OFF => named(word, &[b"on", b"off"]),
         _ => number(kind, word),
     }
 }
 
-// What the words behind the first say; 0 where a row has no such word.
-#[derive(Clone, Copy)]
-enum Three {
-    Values(usize, usize, usize),
-    Bad,
-}
-
-fn value(line: &[u8], kinds: &[u8], n: usize) -> Number
+// What word n behind the first says; 0 where a row has no such word.
+#[tactic(auto, unfolding(crate::specs::Lines::value_at))]
+fn value(line: &[u8], kinds: &[u8], n: usize) -> Option<usize>
     ensures { result ≡ value_at kinds.now line.now n }
 {
-    if kinds.len() <= n {
-        return Number::Value(0);
+    match kinds.get(n) {
+        Some(kind) => argument(*kind, words::word(line, n + 1)),
+        None => Some(0),
     }
-    argument(kinds[n], words::word(line, n + 1))
 }
 
-fn all_three(first: Number, second: Number, third: Number) -> Three
-    ensures { result ≡ three_of first second third }
-{
-    let Number::Value(first) = first else {
-        return Three::Bad;
-    };
-    let Number::Value(second) = second else {
-        return Three::Bad;
-    };
-    let Number::Value(third) = third else {
-        return Three::Bad;
-    };
-    Three::Values(first, second, third)
-}
-
-fn arguments(line: &[u8], kinds: &[u8]) -> Three
+// What the words behind the first say, three at most.
+#[tactic(auto, unfolding(crate::specs::Lines::arguments_of, crate::specs::Lines::three_of))]
+fn arguments(line: &[u8], kinds: &[u8]) -> Option<(usize, usize, usize)>
     ensures { result ≡ arguments_of kinds.now line.now }
 {
     if words::count(line) != kinds.len() + 1 {
-        return Three::Bad;
+        return None;
     }
-    all_three(
-        value(line, kinds, 0),
-        value(line, kinds, 1),
-        value(line, kinds, 2),
-    )
+    Some((
+        value(line, kinds, 0)?,
+        value(line, kinds, 1)?,
+        value(line, kinds, 2)?,
+    ))
 }
 
-// A table is built where its function begins.
-fn line_table() -> [u8; 16 * ROWS]
-    ensures { (column_of result 0 ≡ first_words) × (column_of result 1 ≡ other_kinds) }
+// The row of a line's first word.
+fn row_of(word: &[u8]) -> Option<usize>
+    ensures { result ≡ place_of word.now first_words }
 {
-    LINES
+    LINES.iter().position(|form| word == form.0)
+}
+
+// The kinds of the other words of a row; none where there is no such row.
+fn kinds_of(row: usize) -> &'static [u8]
+    ensures { result.now ≡ get_or other_kinds row [] }
+{
+    match LINES.iter().nth(row) {
+        Some(form) => form.1,
+        None => &[],
+    }
 }
 
 // A line without the CR at its end.
+#[tactic(auto, unfolding(crate::specs::Lines::without_cr))]
 pub fn trimmed(line: &[u8]) -> &[u8]
     ensures { result.now ≡ without_cr line.now }
 {
-    let n = line.len();
-    if n == 0 {
-        return line;
+    match line {
+        [rest @ .., b'\r'] => rest,
+        _ => line,
     }
-    if line[n - 1] == b'\r' {
-        return &line[..n - 1];
-    }
-    line
 }
 
 // Whether a line is a comment, or empty.
+#[tactic(auto, unfolding(crate::specs::Lines::is_silent))]
 pub fn is_silent(line: &[u8]) -> bool
     ensures { result ≡ is_silent line.now }
 {
-    if line.len() == 0 {
-        return true;
-    }
-    line[0] == b'#'
+    line.is_empty() || line[0] == b'#'
+}
+
+// What a line with a row is, where its words are of the row's kinds.
+#[tactic(auto, unfolding(crate::specs::Lines::called_by, crate::specs::Lines::judged))]
+fn called(line: &[u8]) -> Option<Line>
+    ensures { result ≡ called_by (place_of (word_at line.now 0) first_words) line.now }
+{
+    let row = row_of(words::word(line, 0))?;
+    let (first, second, third) = arguments(line, kinds_of(row))?;
+    Some(call(row, first, second, third))
 }
 
 // What a line is.
+#[tactic(auto, unfolding(crate::specs::Lines::line_of, crate::specs::Lines::table_line, crate::specs::Words::codes))]
 pub fn read(line: &[u8]) -> Line
     ensures { result ≡ line_of line.now }
 {
     if is_silent(line) {
         return Line::Aside(Aside::Silent);
     }
-    if words::same(line, b"lamps") {
+    if line == b"lamps".as_slice() {
         return Line::Aside(Aside::Lamps(Part::Chip));
     }
     if LONGEST < line.len() {
         return Line::Run(Command::Bad);
     }
-    let lines = line_table();
-    let row = table::find(words::word(line, 0), &lines);
-    let kinds = table::cell(&lines, row, 1);
-    let Three::Values(first, second, third) = arguments(line, kinds) else {
-        return Line::Run(Command::Bad);
-    };
-    call(row, first, second, third)
+    called(line).unwrap_or(Line::Run(Command::Bad))
 }

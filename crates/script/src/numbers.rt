@@ -1,69 +1,37 @@
 // Numbers in decimal (base 10) and in hex (base 16, either case). Leading zeros are allowed; an empty word, a wrong digit, more digits
-// than are asked for and a number above the most that is asked for are bad.
-ghost use Rattle.std.specs.Prelude.{◌≡◌, ◌≤◌};
+// than are asked for and a number above the most that is asked for are none.
+ghost use Rattle.std.specs.Prelude.{◌≡◌};
 ghost use Rattle.script.specs.Numbers.{digit_of, numeral_of};
 
-#[derive(Clone, Copy)]
-pub(crate) enum Number {
-    Value(usize),
-    Bad,
-}
-
-// The value of a digit; 16 where the byte is none.
-pub(crate) fn digit(byte: u8) -> usize
-    ensures { (result ≡ digit_of byte) × (result ≤ 16) }
+// The value of a digit.
+#[tactic(auto, unfolding(crate::specs::Numbers::digit_of))]
+pub(crate) fn digit(byte: u8) -> Option<usize>
+    ensures { result ≡ digit_of byte }
 {
-    if byte < b'0' {
-        return 16;
+    match byte {
+        b'0'..=b'9' => Some((byte - b'0') as usize),
+        b'A'..=b'F' => Some((byte - b'A') as usize + 10),
+        b'a'..=b'f' => Some((byte - b'a') as usize + 10),
+        _ => None,
     }
-    if byte <= b'9' {
-        return (byte - b'0') as usize;
-    }
-    if byte < b'A' {
-        return 16;
-    }
-    if byte <= b'F' {
-        return (byte - b'A' + 10) as usize;
-    }
-    if byte < b'a' {
-        return 16;
-    }
-    if byte <= b'f' {
-        return (byte - b'a' + 10) as usize;
-    }
-    16
 }
 
-pub(crate) fn read(word: &[u8], base: usize, digits: usize, most: usize) -> Number
+pub(crate) fn read(word: &[u8], base: usize, digits: usize, most: usize) -> Option<usize>
     ensures { result ≡ numeral_of base digits most word.now }
 {
-    if word.len() == 0 {
-        return Number::Bad;
+    if word.is_empty() || digits < word.len() {
+        return None;
     }
-    if digits < word.len() {
-        return Number::Bad;
-    }
-    if base == 0 {
-        return Number::Bad;
-    }
-    // behind a larger number no digit can follow
-    let last = most / base;
-    let mut value = 0;
-    let mut i = 0;
-    while i < word.len() {
-        let next = digit(word[i]);
+    let mut value: usize = 0;
+    for byte in word {
+        let next = digit(*byte)?;
         if base <= next {
-            return Number::Bad;
+            return None;
         }
-        if last < value {
-            return Number::Bad;
+        value = value.checked_mul(base)?.checked_add(next)?;
+        if most < value {
+            return None;
         }
-        value = base * value;
-        if most - value < next {
-            return Number::Bad;
-        }
-        value += next;
-        i += 1;
     }
-    Number::Value(value)
+    Some(value)
 }

@@ -1,12 +1,11 @@
--- `script::bytes::decode` meets its contract.
+-- The invariant of `script::bytes::decode`: all but the digits that are left is decoded.
 -- Assumes nothing.
+use Rattle.std.proofs.Common.{length}
 use Rattle.script.proofs.Reading.{Decodes}
-use lib.ListN.{length}
-use Prim.Native.Nat.{◌-◌, ◌/◌, ◌≤◌}
 use Rattle.script.proofs.bytes.decode.Given as goal
 
-abbrev pub invariant-loop-k : goal.invariant-loop-k
-invariant-loop-k l = (l.k ≤ length l.word / 2) × Decodes l.initial.buffer l.word l.k l.buffer l.at
+abbrev pub invariant-loop-rest : goal.invariant-loop-rest
+invariant-loop-rest l = Decodes l.initial.buffer l.word l.rest l.buffer l.at
 
-abbrev pub decreases-loop-k : goal.decreases-loop-k
-decreases-loop-k l = length l.word / 2 - l.k
+abbrev pub decreases-loop-rest : goal.decreases-loop-rest
+decreases-loop-rest l = length l.rest

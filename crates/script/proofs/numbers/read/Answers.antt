@@ -1,47 +1,43 @@
 -- `script::numbers::read` meets its contract.
 -- Assumes nothing.
-use native.Mathlib.Omega.{arith}
-use Rattle.script.proofs.Reading.{digit_follows, reads_empty, reads_many, reads_baseless, reads_none, reads_more, reads_wrong, reads_large, reads_past, reads_all}
+use Rattle.std.proofs.Common.{◌≡◌, ◌∙◌, ◌+◌, ◌*◌, ◌<◌, sym, rules, arith}
+use Rattle.std.proofs.lemmas.Grind.{common_steps}
+use Rattle.script.proofs.Reading.{rest_first, read_empty, read_many, read_none, read_wrong, read_more, read_large, read_all}
 use Rattle.script.proofs.numbers.read.Goals as goal
+use Rattle.script.proofs.numbers.read.Goals.{then-is_empty-via-then-is_empty, then-is_empty-via-else-is_empty+then-digits-word}
 
-pub returns-then-word-eq0 : goal.returns-then-word-eq0
-returns-then-word-eq0 c = reads_empty _ _ _ _ c.if-word-eq0.true
+pub returns-then-is_empty : goal.returns-then-is_empty
+returns-then-is_empty c = elim c.then-is_empty.branch [
+  | then-is_empty-via-then-is_empty w ↦ read_empty _ _ _ _ (search rules)
+  | then-is_empty-via-else-is_empty+then-digits-word w ↦ read_many _ _ _ _ w.if-digits-word.true
+]
 
-pub returns-then-digits-word : goal.returns-then-digits-word
-returns-then-digits-word c = reads_many _ _ _ _ c.if-word-eq0.false c.if-digits-word.true
+pub loop-byte-init : goal.loop-byte-init
+loop-byte-init c = (omega arith, rest_first _ _ _ _ (search rules) c.if-digits-word.false)
 
-pub returns-then-base-eq0 : goal.returns-then-base-eq0
-returns-then-base-eq0 c = reads_baseless _ _ _ _ c.if-word-eq0.false c.if-digits-word.false c.if-base-eq0.true
-
-pub loop-i-init : goal.loop-i-init
-loop-i-init c = reads_none _ _ _ _ c.if-word-eq0.false c.if-digits-word.false
+pub returns-in_err-next : goal.returns-in_err-next
+returns-in_err-next c = c.from_residual.ensures ∙ read_none _ _ _ _ _ _ c.loop-byte-test.true c.loop-byte.invariant.1 (sym c.digit.ensures ∙ c.in_err-next.was)
 
 pub returns-then-base-next : goal.returns-then-base-next
-returns-then-base-next c = reads_wrong _ _ _ _ _ _ _ c.loop-i-test.true c.digit-next.ensures.0 c.if-base-next.true c.loop-i.invariant
+returns-then-base-next c = read_wrong _ _ _ _ _ _ c.loop-byte-test.true c.loop-byte.invariant.1 _ (sym c.digit.ensures ∙ c.in_ok-next.was) c.if-base-next.true
 
-pub returns-then-last-value : goal.returns-then-last-value
-returns-then-last-value c = reads_past _ _ _ _ _ _ _ c.loop-i-test.true c.digit-next.ensures.0 c.if-base-eq0.false c.if-last-value.true c.loop-i.invariant
+pub returns-in_err-checked_mul : goal.returns-in_err-checked_mul
+returns-in_err-checked_mul c =
+    c.from_residual-in_err-checked_mul.ensures
+    ∙ read_large _ _ _ _ _ _ c.loop-byte-test.true c.loop-byte.invariant.1 _ (sym c.digit.ensures ∙ c.in_ok-next.was) c.if-base-next.false (grind (arith, common_steps))
 
-pub overflow_mul-value : goal.overflow_mul-value
-overflow_mul-value c = omega (arith, digit_follows _ _ _ c.if-base-eq0.false c.if-last-value.false)
-
-pub overflow_sub-most : goal.overflow_sub-most
-overflow_sub-most c = digit_follows _ _ _ c.if-base-eq0.false c.if-last-value.false
+pub returns-in_err-value : goal.returns-in_err-value
+returns-in_err-value c =
+    c.from_residual-in_err-value.ensures
+    ∙ read_large _ _ _ _ _ _ c.loop-byte-test.true c.loop-byte.invariant.1 _ (sym c.digit.ensures ∙ c.in_ok-next.was) c.if-base-next.false (grind (arith, common_steps))
 
 pub returns-then-most-value : goal.returns-then-most-value
-returns-then-most-value c = reads_large _ _ _ _ _ _ _ c.loop-i-test.true c.digit-next.ensures.0 c.if-base-eq0.false (omega (arith, c.if-most-value.true)) c.loop-i.invariant
+returns-then-most-value c = read_large _ _ _ _ _ _ c.loop-byte-test.true c.loop-byte.invariant.1 _ (sym c.digit.ensures ∙ c.in_ok-next.was) c.if-base-next.false (grind (arith, common_steps))
 
-pub overflow_add-value : goal.overflow_add-value
-overflow_add-value c = omega (arith, digit_follows _ _ _ c.if-base-eq0.false c.if-last-value.false, c.if-most-value.false)
-
-pub loop-i-preserved : goal.loop-i-preserved
-loop-i-preserved c =
-    let follows = digit_follows _ _ _ c.if-base-eq0.false c.if-last-value.false in
-    reads_more _ _ _ _ _ _ _ c.loop-i-test.true c.digit-next.ensures.0 c.if-base-next.false (omega (arith, follows, c.if-most-value.false)) c.loop-i.invariant
+pub loop-byte-preserved : goal.loop-byte-preserved
+loop-byte-preserved c =
+    let value : c.in_ok-value.value ≡ c.args.base * c.loop-byte.value + c.in_ok-next.next = grind (arith, common_steps) in
+    (c.if-most-value.false, rw value (read_more _ _ _ _ _ _ c.loop-byte-test.true c.loop-byte.invariant.1 _ (sym c.digit.ensures ∙ c.in_ok-next.was) c.if-base-next.false))
 
 pub returns : goal.returns
-returns c = reads_all _ _ _ _ _ _ c.loop-i-test.false c.loop-i.invariant
-
--- UNPLACED
--- div-last : tie.Need-nonzero-div-last invariant-loop decreases-loop
--- div-last c = omega (arith, c.if3.false)
+returns c = read_all _ _ _ _ _ _ c.loop-byte-test.false c.loop-byte.invariant.0 c.loop-byte.invariant.1
