@@ -1,12 +1,10 @@
 -- How a line is judged, over plain values.
 -- Assumes nothing.
-use Rattle.std.proofs.Common.{◌≡◌, ℕ, zero, suc, ◌+◌, ◌-◌, ◌≤◌, ◌<◌, arith, Bool, true, false, cond, length, List, [], ◌∷◌, refl, ap, ◌∙◌, sym}
+use Rattle.std.proofs.Common.{◌≡◌, ℕ, suc, ◌+◌, ◌-◌, ◌≤◌, arith, Bool, cond, length, List, [], ◌∷◌, refl, ap, ◌∙◌, sym}
 use Rattle.std.proofs.Math.ListN.{get_or-eq_default, get_or-map}
 use Rattle.std.specs.Prelude.{position, map, not, bytes_eq, Option}
 use Rattle.std.specs.List.{position_or_len}
-use Rattle.std.specs.Prelude.{unwrap_or, option_map, option_copied, find, Some, None, slice_get, get_or, eqb}
-use Rattle.std.proofs.lemmas.Option.{get_or_from_slice_get, slice_get_within}
-use Rattle.std.proofs.lemmas.List.{get_or_default}
+use Rattle.std.specs.Prelude.{option_map, option_copied, find, Some, get_or, eqb}
 use denote.Ref.{Bor}
 use Rattle.script.specs.declared.lines.NumberKind.{NumberKind}
 use Rattle.script.specs.declared.lines.Form.{Form}
@@ -40,22 +38,13 @@ kind_found xs k o r e h = e ∙ h ∙ among xs
     among [] = refl
     among (x ∷ xs) = (ap (cond (eqb x.letter k) (Some x)) (among xs))
 
--- the kinds of the words of a row that is there, and of none
-pub kinds_found : (fs : List Form) (k : ℕ) (x : Bor Form) → option_map (λ y. y.now) (Some x) ≡ slice_get fs k → map (λ (f : Form). f.1.now) fs ≡ other_kinds →
-    x.now.1.now ≡ get_or other_kinds k []
-kinds_found fs k x h e =
-    let here = get_or_from_slice_get fs k x.now x.now (sym h) in
-    ap (λ (f : Form). f.1.now) (sym here) ∙ sym (get_or-map (λ (f : Form). f.1.now) fs k x.now)
-    ∙ get_or_default (map (λ (f : Form). f.1.now) fs) k x.now.1.now [] (rw (length_map (λ (f : Form). f.1.now) fs) (slice_get_within fs k x.now (sym h)))
-    ∙ ap (λ (ks : List (List ℕ)). get_or ks k []) e
+-- no row, for what is not there
+abbrev pub no_form : Form
+no_form = record { 0 = record { ref_ptr = (0, 0); now = [] }; 1 = record { ref_ptr = (0, 0); now = [] } }
 
-pub kinds_missing : (fs : List Form) (k : ℕ) → None ≡ slice_get fs k → map (λ (f : Form). f.1.now) fs ≡ other_kinds → [] ≡ get_or other_kinds k []
-kinds_missing fs k h e = none fs k h ∙ ap (λ (ks : List (List ℕ)). get_or ks k []) e
-  where
-    none : (fs : List Form) (k : ℕ) → None ≡ slice_get fs k → [] ≡ get_or (map (λ (f : Form). f.1.now) fs) k []
-    none [] k h = refl
-    none (f ∷ fs) zero h = let z : ◌≡◌ {A = ℕ} 0 1 = cc in absurd (omega arith)
-    none (f ∷ fs) (suc k) h = none fs k h
+-- the kinds of the words of row k
+pub kinds_at : (fs : List Form) (k : ℕ) (x : Form) → x ≡ get_or fs k no_form → x.1.now ≡ get_or (map (λ (f : Form). f.1.now) fs) k []
+kinds_at fs k x h = ap (λ (f : Form). f.1.now) h ∙ sym (get_or-map (λ (f : Form). f.1.now) fs k no_form)
 
 -- a row behind n others
 pub call_behind : (k n a b c : ℕ) (r : Line) → n ≤ k → r ≡ call_at (n + (k - n)) a b c → r ≡ call_at k a b c
@@ -64,23 +53,13 @@ call_behind k n a b c r h e =
     e ∙ ap (λ (j : ℕ). call_at j a b c) same
 
 -- a line of row k, by the kinds that the row has
-pub judged_here : (l w ks : List ℕ) (p : Option ℕ) (k : ℕ) (x : Option (ℕ × ℕ × ℕ)) → w ≡ word_at l 0 → p ≡ place_of w first_words → p ≡ Some k → ks ≡ get_or other_kinds k [] → x ≡ arguments_of ks l →
+pub judged_here : (l w ks : List ℕ) (names kinds : List (List ℕ)) (p : Option ℕ) (k : ℕ) (x : Option (ℕ × ℕ × ℕ)) → names ≡ first_words → kinds ≡ other_kinds →
+    w ≡ word_at l 0 → p ≡ place_of w names → p ≡ Some k → ks ≡ get_or kinds k [] → x ≡ arguments_of ks l →
     option_map (λ (w : ℕ × ℕ × ℕ). call_at k w.0 w.1 w.2) x ≡ called_by (place_of (word_at l 0) first_words) l
 unfolding called_by judged other_kinds line_at no_line
-judged_here l w ks p k x ew ep eq ek ex =
-    let row : place_of (word_at l 0) first_words ≡ Some k = rw (← ew) (sym ep ∙ eq) in
-    rw (row, ex, ek, get_or-map (λ (r : Row). r.kinds) lines k no_line) refl
-
--- a number that is none of those below n
-abbrev pub Others : ℕ → ℕ → Type 0
-Others k zero = Unit
-Others k (suc n) = Others k n × (k ≡ n → ⊥)
-
-pub others_above : (k n : ℕ) → Others k n → n ≤ k
-others_above k zero o = omega arith
-others_above k (suc n) o =
-    let least = others_above k n o.0 in
-    omega (arith, least, o.1)
+judged_here l w ks names kinds p k x en ef ew ep eq ek ex =
+    let row : place_of (word_at l 0) first_words ≡ Some k = rw (← ew, ← en) (sym ep ∙ eq) in
+    rw (row, ex, ek, ef, get_or-map (λ (r : Row). r.kinds) lines k no_line) refl
 
 -- behind the last row there is no line
 pub no_call : (k a b c : ℕ) → length lines ≤ k → Run commands.Bad ≡ call_at k a b c

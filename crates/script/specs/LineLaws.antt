@@ -1,6 +1,6 @@
 -- Laws of Lines.antt: what a command asks for is there.
 -- Assumes nothing.
-use Rattle.std.specs.Prelude.{◌≡◌, refl, Option, None, Some, unwrap_or, option_map, not, Bool, true, false, cond, ◌&&◌, List, [], ◌∷◌, ◌++◌, ℕ, zero, suc, min, ◌+◌, ◌≤◌, ◌<◌, ltb, leb, eqb, length, get_or, take, drop, position}
+use Rattle.std.specs.Prelude.{◌≡◌, refl, Option, None, Some, unwrap_or, option_map, Bool, true, false, cond, ◌&&◌, List, [], ◌∷◌, ◌++◌, ℕ, zero, suc, min, ◌+◌, ◌≤◌, ◌<◌, ltb, leb, eqb, length, get_or, take, drop}
 use Rattle.std.proofs.Common.{sym, subst, ◌∙◌, arith, leb-true, ltb-true}
 use Rattle.calls.specs.declared.Request.{Request}
 use Rattle.calls.specs.declared.Request.TheVariants.{Set, Reset, PowerLost, Update, Lock}

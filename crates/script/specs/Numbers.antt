@@ -1,7 +1,7 @@
 -- Numbers: "Numbers are decimal unless said to be hex; hex is in capitals in output, either case in input; leading zeros are
 -- allowed." b is an ASCII code, w the codes of a word.
 -- Assumes nothing.
-use Rattle.std.specs.Prelude.{Bool, true, false, cond, ◌&&◌, List, [], ◌∷◌, ℕ, ◌+◌, ◌-◌, ◌*◌, ltb, leb, length, Option, None, Some, unwrap_or}
+use Rattle.std.specs.Prelude.{Bool, false, cond, ◌&&◌, List, [], ◌∷◌, ℕ, ◌+◌, ◌-◌, ◌*◌, ltb, leb, length, Option, None, Some, unwrap_or}
 use Rattle.std.specs.List.{list_all}
 
 -- the value of a digit, 0 to 9, A to F, a to f

@@ -286,18 +286,27 @@ fn arguments(line: &[u8], kinds: &[u8]) -> Option<(usize, usize, usize)>
     ))
 }
 
-// The row of a line's first word.
-fn row_of(word: &[u8]) -> Option<usize>
-    ensures { result ≡ place_of word.now first_words }
+// The table of lines: its first words are those of the language's lines, and its kinds those of their other words.
+#[tactic(auto, unfolding(crate::specs::Lines::first_words, crate::specs::Lines::other_kinds, crate::specs::Lines::lines, crate::specs::Words::codes))]
+fn line_table() -> &'static [Form]
+    ensures words { map (λ f. f.0.now) result.now ≡ first_words }
+    ensures kinds { map (λ f. f.1.now) result.now ≡ other_kinds }
 {
-    LINES.iter().position(|form| word == form.0)
+    &LINES
+}
+
+// The row of a line's first word.
+fn row_of(lines: &[Form], word: &[u8]) -> Option<usize>
+    ensures { result ≡ place_of word.now (map (λ f. f.0.now) lines.now) }
+{
+    lines.iter().position(|form| word == form.0)
 }
 
 // The kinds of the other words of a row; none where there is no such row.
-fn kinds_of(row: usize) -> &'static [u8]
-    ensures { result.now ≡ get_or other_kinds row [] }
+fn kinds_of(lines: &[Form], row: usize) -> &'static [u8]
+    ensures { result.now ≡ get_or (map (λ f. f.1.now) lines.now) row [] }
 {
-    match LINES.iter().nth(row) {
+    match lines.get(row) {
         Some(form) => form.1,
         None => &[],
     }
@@ -327,8 +336,9 @@ pub fn is_silent(line: &[u8]) -> bool
 fn called(line: &[u8]) -> Option<Line>
     ensures { result ≡ called_by (place_of (word_at line.now 0) first_words) line.now }
 {
-    let row = row_of(words::word(line, 0))?;
-    let (first, second, third) = arguments(line, kinds_of(row))?;
+    let lines = line_table();
+    let row = row_of(lines, words::word(line, 0))?;
+    let (first, second, third) = arguments(line, kinds_of(lines, row))?;
     Some(call(row, first, second, third))
 }
 

@@ -1,3 +1,5 @@
+-- `script::lines::named` meets its contract.
+-- Assumes nothing.
 use Rattle.std.proofs.Common.{ℕ, List, refl, rules, tests}
 use Rattle.std.specs.Prelude.{bytes_eq}
 use Rattle.std.proofs.lemmas.Iterator.{YieldsList-from_slice}

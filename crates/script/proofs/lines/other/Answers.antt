@@ -3,7 +3,7 @@
 use mathlib.Core.Path.{refl}
 use native.Mathlib.Omega.{arith}
 use Rattle.script.specs.Lines.{lines, line_at, call_at}
-use Rattle.script.proofs.Judging.{others_above, no_call}
+use Rattle.script.proofs.Judging.{no_call}
 use Rattle.script.proofs.lines.other.Goals as goal
 
 pub returns-in-0 : goal.returns-in-0
@@ -104,4 +104,4 @@ returns-in-23 c = rw c.in-23.is refl
 
 pub returns-in_default : goal.returns-in_default
 unfolding lines
-returns-in_default c = let behind = others_above _ 24 c.in_default.in_default-own.rest in no_call _ _ _ _ (omega (arith, behind))
+returns-in_default c = no_call _ _ _ _ (omega arith)

@@ -1,6 +1,6 @@
 -- `script::numbers::read` meets its contract.
 -- Assumes nothing.
-use Rattle.std.proofs.Common.{◌≡◌, ◌∙◌, ◌+◌, ◌*◌, ◌<◌, sym, rules, arith}
+use Rattle.std.proofs.Common.{◌≡◌, ◌∙◌, ◌+◌, ◌*◌, sym, rules, arith}
 use Rattle.std.proofs.lemmas.Grind.{common_steps}
 use Rattle.script.proofs.Reading.{rest_first, read_empty, read_many, read_none, read_wrong, read_more, read_large, read_all}
 use Rattle.script.proofs.numbers.read.Goals as goal

@@ -1,3 +1,5 @@
+-- `script::words::line_length` meets its contract.
+-- Assumes nothing.
 use Rattle.std.proofs.Common.{eqb, rules, tests}
 use Rattle.std.proofs.lemmas.Iterator.{YieldsList-from_slice}
 use Rattle.std.proofs.lemmas.Iterator.Search.{position_from_yields_List}

@@ -1,3 +1,5 @@
+-- `script::words::word` meets its contract.
+-- Assumes nothing.
 use Rattle.std.proofs.Common.{eqb, rules, tests, refl}
 use Rattle.std.proofs.lemmas.Iterator.Consumers.{nth_from_yields_List}
 use Rattle.std.proofs.lemmas.Iterator.Splits.{YieldsList-from_slice_split}
