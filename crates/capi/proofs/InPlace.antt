@@ -12,12 +12,11 @@ use borrow.Rule.Slice.PartMut.{same_len_mid}
 use lib.ListN.{length, get_or, take, drop, set, length-set, length-take, length-drop, length-append, drop_of_length-le, take-append-drop}
 use lib.Seq.{take_all, take_at, drop-drop}
 use mir.Val.{bool_byte}
-use Rattle.map.specs.declared.refusals.Answer.{Answer}
-use Rattle.map.specs.declared.refusals.Answer as answers
+use Rattle.std.specs.Prelude.{Ok, Err}
 use Rattle.map.specs.declared.refusals.Refusal.{Refusal}
 use Rattle.map.specs.declared.refusals.Refusal.TheVariants.{Unsound}
 use Rattle.map.specs.declared.refusals.Numbers.{Numbers}
-use Rattle.map.specs.Refusals.{refusal_number, answer_number, numbers_of, accepted, open_answer, opens}
+use Rattle.map.specs.Refusals.{Answer, refusal_number, answer_number, numbers_of, accepted, open_answer, opens}
 use Rattle.map.specs.RefusalLaws.{answer_small, opens_member, opens_bus, opens_pins}
 use Rattle.map.specs.Map.{reset_of}
 use Rattle.map.specs.ListLaws.{table_length}
@@ -28,7 +27,7 @@ use Rattle.host.specs.declared.Header.{Header}
 use Rattle.host.specs.declared.Record.{Record}
 use Rattle.host.specs.declared.Changed.{Changed}
 use Rattle.host.specs.Record.{record_of, free, locked, opened, open_host, open_of, setting_answer, setting_numbers, put_setting, changed_to, setting_of, sound_answer, chip_reset, power_lost_of, lock_answer, lock_of}
-use Rattle.faults.specs.declared.Answer as faults
+use Rattle.faults.specs.Faults as faults
 use Rattle.faults.specs.Faults.{faults_answer, faults_result}
 use Rattle.chip.specs.declared.Chip.{Chip}
 use Rattle.chip.specs.Chip.{chip_of, new_chip, at_reset_of, apply_all, feed_answer, feed_of}
@@ -87,16 +86,16 @@ module _ (bytes lent : List ℕ) (q : Setting) (numbers : Numbers) (en : numbers
   abbrev x : Changed
   x = setting_of (record_in bytes) q lent
 
-  first_number : (b : Bool) → (cond b x.numbers (numbers_of (refusal_number Unsound ∷ []))).number ≡ answer_number (cond b x.answer (answers.TheVariants.Refused Unsound))
+  first_number : (b : Bool) → get_or (cond b x.numbers (numbers_of (refusal_number Unsound ∷ []))).values 0 0 ≡ answer_number (cond b x.answer (Err Unsound))
   unfolding setting_of changed_to setting_numbers numbers_of
   first_number true = refl
   first_number false = refl
 
-  pub set_number : numbers.number ≡ setting_number bytes x
+  pub set_number : get_or numbers.values 0 0 ≡ setting_number bytes x
   unfolding setting_number sized_numbers when_sized
-  set_number = ap (λ (y : Numbers). y.number) en ∙ first_number (record_sized bytes)
+  set_number = ap (λ (y : Numbers). get_or y.values 0 0) en ∙ first_number (record_sized bytes)
 
-  pub number_fits : numbers.number < 2 ^ 32
+  pub number_fits : get_or numbers.values 0 0 < 2 ^ 32
   unfolding setting_number
   number_fits = omega (arith, set_number, answer_small (when_sized (record_sized bytes) x.answer))
 
@@ -122,91 +121,96 @@ module _ (bytes : List ℕ) (h : length bytes ≡ record_size) where
   image_put false new = part_same image_at 908 bytes
 
   -- Power lost and Reset: the reset values are put into the image, and the lock is released
-  pub reset_stored : (header : Header) → header ≡ header_in bytes → (b : Bool) (part new : List ℕ) →
-      part ≡ cond (b && eqb (length (image_in bytes)) 908) (reset_image header.member) (image_in bytes) →
-      new ≡ cond b (set (put_part image_at 908 bytes part) marks_at free) (put_part image_at 908 bytes part) →
-      new ≡ cond b (record_bytes (chip_reset (record_in bytes))) bytes
+  pub reset_stored : (header : Header) → header ≡ header_in bytes → (part new : List ℕ) →
+      part ≡ cond (eqb (length (image_in bytes)) 908) (reset_image header.member) (image_in bytes) →
+      new ≡ set (put_part image_at 908 bytes part) marks_at free → new ≡ record_bytes (chip_reset (record_in bytes))
   unfolding record_in
-  reset_stored header eh b part new ep en =
+  reset_stored header eh part new ep en =
       let whole = eq-eqb (length (image_in bytes)) 908 (part_length image_at 908 bytes (omega arith)) in
+      let values : List ℕ = reset_image (header_in bytes).member in
+      let put : part ≡ values =
+      ep ∙ ap (λ (t : Bool). cond t (reset_image header.member) (image_in bytes)) whole ∙ ap (λ (x : Header). reset_image x.member) eh in
       en
-      ∙ ap (marked b)
-      (ep ∙ ap (λ (t : Bool). cond (b && t) (reset_image header.member) (image_in bytes)) whole
-      ∙ ap (λ (x : Header). cond (b && true) (reset_image x.member) (image_in bytes)) eh)
-      ∙ go b
-    where
-      marked : Bool → List ℕ → List ℕ
-      marked t l = cond t (set (put_part image_at 908 bytes l) marks_at free) (put_part image_at 908 bytes l)
+      ∙ ap (λ (l : List ℕ). set (put_part image_at 908 bytes l) marks_at free) put
+      ∙ ap (λ (l : List ℕ). set l marks_at free) (image_put true values)
+      ∙ marks_stored (record_of (header_in bytes) (settings_in bytes) values) free
 
-      values : List ℕ
-      values = reset_image (header_in bytes).member
+  -- a call that is accepted, or refused
+  pub call_done : (x : Changed) (new : List ℕ) → x.answer ≡ Ok tt → new ≡ record_bytes x.host → Done bytes x 0 new
+  call_done x new a e = done bytes new x 0 h (rw a refl) (rw a e)
 
-      go : (t : Bool) → marked t (cond (t && true) values (image_in bytes)) ≡ cond t (record_bytes (chip_reset (record_in bytes))) bytes
-      go true =
-          ap (λ (l : List ℕ). set l marks_at free) (image_put true values)
-          ∙ marks_stored (record_of (header_in bytes) (settings_in bytes) values) free
-      go false = image_put false values
+  pub call_refused : (x : Changed) (refusal : Refusal) (number : ℕ) → x.answer ≡ Err refusal → number ≡ refusal_number refusal → Done bytes x number bytes
+  call_refused x refusal number a e = done bytes bytes x number h (rw a e) (rw a refl)
 
-  -- a header that was read, and the answer to a call on the record that it makes with the two images
-  module _ (header : Header) (eh : header ≡ header_in bytes) (answer : Answer) where
-    pub setting_done : (q : Setting) (lent part : List ℕ) (numbers : Numbers) → answer ≡ setting_answer (record_of header (settings_in bytes) (image_in bytes)) q lent →
-        numbers ≡ numbers_of (setting_numbers (record_of header (settings_in bytes) (image_in bytes)) q lent) →
-        part ≡ cond (accepted answer) (put_setting (settings_in bytes) q lent) (settings_in bytes) →
-        Set bytes (setting_of (record_in bytes) q lent) numbers (put_part settings_at 908 bytes part)
-    unfolding record_in setting_of changed_to sized_numbers setting_bytes when_sized
-    setting_done q lent part numbers ea en ep =
-        let e : answer ≡ setting_answer (record_of (header_in bytes) (settings_in bytes) (image_in bytes)) q lent =
-        ea ∙ ap (λ (y : Header). setting_answer (record_of y (settings_in bytes) (image_in bytes)) q lent) eh in (
-          en ∙ rw (record_sized_lem bytes h) (ap (λ (y : Header). numbers_of (setting_numbers (record_of y (settings_in bytes) (image_in bytes)) q lent)) eh),
-          ap (put_part settings_at 908 bytes) (ep ∙ ap (λ (y : Answer). cond (accepted y) (put_setting (settings_in bytes) q lent) (settings_in bytes)) e)
-              ∙ rw (record_sized_lem bytes h)
-              (settings_put (accepted (setting_answer (record_of (header_in bytes) (settings_in bytes) (image_in bytes)) q lent)) (put_setting (settings_in bytes) q lent)),
-        )
-
-    -- a call with the answer f, which leaves the record `host` where it is accepted
-    record_done : (f : Record → Answer) (x : Changed) (host : Record) (number : ℕ) (new : List ℕ) → x.answer ≡ f (record_in bytes) →
-        x.host ≡ cond (accepted (f (record_in bytes))) host (record_in bytes) → answer ≡ f (record_of header (settings_in bytes) (image_in bytes)) →
-        number ≡ answer_number answer → new ≡ cond (accepted answer) (record_bytes host) bytes → Done bytes x number new
+  -- a record that was read
+  module _ (r : Record) (read : r ≡ record_in bytes) where
+    pub header_is : r.header ≡ header_in bytes
     unfolding record_in
-    record_done f x host number new xa xh ea en eb =
-        let e : answer ≡ f (record_in bytes) = ea ∙ ap (λ (y : Header). f (record_of y (settings_in bytes) (image_in bytes))) eh in
-        done bytes new x number h (en ∙ ap answer_number (e ∙ sym xa))
-        (eb ∙ ap (λ (y : Answer). cond (accepted y) (record_bytes host) bytes) e
-        ∙ chosen (accepted (f (record_in bytes))) host (record_in bytes) bytes ∙ rw (xa, xh) refl)
+    header_is = ap (λ (x : Record). x.header) read
 
-    pub lost_done : (number : ℕ) (new : List ℕ) → answer ≡ sound_answer (record_of header (settings_in bytes) (image_in bytes)) → number ≡ answer_number answer →
-        new ≡ cond (accepted answer) (record_bytes (chip_reset (record_in bytes))) bytes → Done bytes (power_lost_of (record_in bytes)) number new
-    unfolding power_lost_of
-    lost_done number new ea en em =
-        record_done sound_answer (power_lost_of (record_in bytes)) (chip_reset (record_in bytes)) number new refl refl ea en em
+    pub parts_are : r ≡ record_of r.header (settings_in bytes) (image_in bytes)
+    unfolding record_in
+    parts_are = read ∙ ap (λ (x : Header). record_of x (settings_in bytes) (image_in bytes)) (sym header_is)
 
-    -- Lock puts its mark
-    pub lock_done : (number : ℕ) (new : List ℕ) → answer ≡ lock_answer (record_of header (settings_in bytes) (image_in bytes)) → number ≡ answer_number answer →
-        new ≡ cond (accepted answer) (set bytes marks_at locked) bytes → Done bytes (lock_of (record_in bytes)) number new
-    unfolding lock_of
-    lock_done number new ea en em =
-        record_done lock_answer (lock_of (record_in bytes)) _ number new refl refl ea en
-        (em ∙ ap (λ (l : List ℕ). cond (accepted answer) l bytes)
-        (ap (λ (l : List ℕ). set l marks_at locked) (sym (record_round bytes h)) ∙ marks_stored (record_in bytes) locked))
+    module _ (answer : Answer) where
+      -- what the store of a setting is told
+      pub told : (q : Setting) (lent : List ℕ) → answer ≡ setting_answer r q lent → answer ≡ setting_answer (record_of r.header (settings_in bytes) (image_in bytes)) q lent
+      told q lent ea = ea ∙ ap (λ (x : Record). setting_answer x q lent) parts_are
+
+      pub setting_done : (q : Setting) (lent part : List ℕ) (numbers : Numbers) → answer ≡ setting_answer r q lent →
+          numbers ≡ numbers_of (setting_numbers (record_of r.header (settings_in bytes) (image_in bytes)) q lent) →
+          part ≡ cond (accepted answer) (put_setting (settings_in bytes) q lent) (settings_in bytes) →
+          Set bytes (setting_of (record_in bytes) q lent) numbers (put_part settings_at 908 bytes part)
+      unfolding record_in setting_of changed_to sized_numbers setting_bytes when_sized
+      setting_done q lent part numbers ea en ep =
+          let e : answer ≡ setting_answer (record_of (header_in bytes) (settings_in bytes) (image_in bytes)) q lent =
+          ea ∙ ap (λ (y : Record). setting_answer y q lent) read in (
+            en ∙ rw (record_sized_lem bytes h) (ap (λ (y : Header). numbers_of (setting_numbers (record_of y (settings_in bytes) (image_in bytes)) q lent)) header_is),
+            ap (put_part settings_at 908 bytes) (ep ∙ ap (λ (y : Answer). cond (accepted y) (put_setting (settings_in bytes) q lent) (settings_in bytes)) e)
+                ∙ rw (record_sized_lem bytes h)
+                (settings_put (accepted (setting_answer (record_of (header_in bytes) (settings_in bytes) (image_in bytes)) q lent)) (put_setting (settings_in bytes) q lent)),
+          )
+
+      -- Power lost puts the reset values, Lock its mark
+      pub lost_done : (new : List ℕ) → answer ≡ sound_answer r → answer ≡ Ok tt → new ≡ record_bytes (chip_reset (record_in bytes)) → Done bytes (power_lost_of (record_in bytes)) 0 new
+      unfolding power_lost_of
+      lost_done new ea a e =
+          let q : sound_answer (record_in bytes) ≡ Ok tt = ap sound_answer (sym read) ∙ sym ea ∙ a in
+          call_done (power_lost_of (record_in bytes)) new q (e ∙ rw q refl)
+
+      pub lost_refused : (refusal : Refusal) (number : ℕ) → answer ≡ sound_answer r → answer ≡ Err refusal → number ≡ refusal_number refusal → Done bytes (power_lost_of (record_in bytes)) number bytes
+      unfolding power_lost_of
+      lost_refused refusal number ea a en = call_refused (power_lost_of (record_in bytes)) refusal number (ap sound_answer (sym read) ∙ sym ea ∙ a) en
+
+      pub lock_done : (new : List ℕ) → answer ≡ lock_answer r → answer ≡ Ok tt → new ≡ set bytes marks_at locked → Done bytes (lock_of (record_in bytes)) 0 new
+      unfolding lock_of
+      lock_done new ea a e =
+          let q : lock_answer (record_in bytes) ≡ Ok tt = ap lock_answer (sym read) ∙ sym ea ∙ a in
+          call_done (lock_of (record_in bytes)) new q
+          (e ∙ ap (λ (l : List ℕ). set l marks_at locked) (sym (record_round bytes h)) ∙ marks_stored (record_in bytes) locked ∙ rw q refl)
+
+      pub lock_refused : (refusal : Refusal) (number : ℕ) → answer ≡ lock_answer r → answer ≡ Err refusal → number ≡ refusal_number refusal → Done bytes (lock_of (record_in bytes)) number bytes
+      unfolding lock_of
+      lock_refused refusal number ea a en = call_refused (lock_of (record_in bytes)) refusal number (ap lock_answer (sym read) ∙ sym ea ∙ a) en
 
 -- ---- Open
 
-pub opened_inside : (m b p : ℕ) (answer : Answer) → answer ≡ open_answer m b p → answer ≡ answers.TheVariants.Accepted → (m < 5) × (b < 2) × (p < 4)
+pub opened_inside : (m b p : ℕ) (answer : Answer) → answer ≡ open_answer m b p → answer ≡ Ok tt → (m < 5) × (b < 2) × (p < 4)
 unfolding opens
 opened_inside m b p answer e a =
     let o : opens m b p ≡ true = ap accepted (sym e ∙ a) in (opens_member m b p o, opens_bus m b p o, opens_pins m b p o)
 
 module _ (m b p : ℕ) (bytes : List ℕ) (answer : Answer) (e : answer ≡ open_answer m b p) (h : length bytes ≡ record_size) where
-  pub open_refused : (x : Refusal) (number : ℕ) → answer ≡ answers.TheVariants.Refused x → number ≡ refusal_number x → Done bytes (open_of m b p) number bytes
+  pub open_refused : (x : Refusal) (number : ℕ) → answer ≡ Err x → number ≡ refusal_number x → Done bytes (open_of m b p) number bytes
   unfolding open_of
   open_refused x number a en =
-      let q : open_answer m b p ≡ answers.TheVariants.Refused x = sym e ∙ a in
+      let q : open_answer m b p ≡ Err x = sym e ∙ a in
       done bytes bytes (open_of m b p) number h (rw q en) (rw q refl)
 
-  pub open_done : (new : List ℕ) → answer ≡ answers.TheVariants.Accepted → new ≡ record_bytes (opened m b p) → Done bytes (open_of m b p) 0 new
+  pub open_done : (new : List ℕ) → answer ≡ Ok tt → new ≡ record_bytes (opened m b p) → Done bytes (open_of m b p) 0 new
   unfolding open_of open_host
   open_done new a en =
-      let q : open_answer m b p ≡ answers.TheVariants.Accepted = sym e ∙ a in
+      let q : open_answer m b p ≡ Ok tt = sym e ∙ a in
       done bytes new (open_of m b p) 0 h (rw q refl) (rw q en)
 
 -- a list of n, of which the first `at` are xs
@@ -299,18 +303,18 @@ unfolding chip_number chip_after when_sized
 chip_done bytes new answer c number h en eb = (rw (chip_sized_lem bytes h) en, rw (chip_sized_lem bytes h) eb)
 
 module _ (m b p : ℕ) (bytes : List ℕ) (answer : Answer) (e : answer ≡ open_answer m b p) (h : length bytes ≡ chip_size) where
-  pub at_reset_refused : (x : Refusal) (number : ℕ) → answer ≡ answers.TheVariants.Refused x → number ≡ refusal_number x →
+  pub at_reset_refused : (x : Refusal) (number : ℕ) → answer ≡ Err x → number ≡ refusal_number x →
       ChipDone bytes (at_reset_of m b p).answer (at_reset_of m b p).chip number bytes
   unfolding at_reset_of
   at_reset_refused x number a en =
-      let q : open_answer m b p ≡ answers.TheVariants.Refused x = sym e ∙ a in
+      let q : open_answer m b p ≡ Err x = sym e ∙ a in
       chip_done bytes bytes (at_reset_of m b p).answer (at_reset_of m b p).chip number h (rw q en) (rw q refl)
 
-  pub at_reset_done : (new : List ℕ) → answer ≡ answers.TheVariants.Accepted → new ≡ chip_bytes (new_chip m b p) →
+  pub at_reset_done : (new : List ℕ) → answer ≡ Ok tt → new ≡ chip_bytes (new_chip m b p) →
       ChipDone bytes (at_reset_of m b p).answer (at_reset_of m b p).chip 0 new
   unfolding at_reset_of opens
   at_reset_done new a en =
-      let q : open_answer m b p ≡ answers.TheVariants.Accepted = sym e ∙ a in
+      let q : open_answer m b p ≡ Ok tt = sym e ∙ a in
       chip_done bytes new (at_reset_of m b p).answer (at_reset_of m b p).chip 0 h (rw q refl) (rw q en)
 
 module _ (bytes : List ℕ) (h : length bytes ≡ chip_size) where
@@ -325,12 +329,12 @@ module _ (bytes : List ℕ) (h : length bytes ≡ chip_size) where
 
   pub chip_lost_done : (part : List ℕ) →
       part ≡ cond (eqb (length (take 908 (drop registers_at bytes))) 908) (Rattle.chip.specs.Chip.power_lost_of (chip_of (get_or bytes 0 0) 0 0 (take 908 (drop registers_at bytes)))).registers (take 908 (drop registers_at bytes)) →
-      ChipDone bytes answers.TheVariants.Accepted (Rattle.chip.specs.Chip.power_lost_of (chip_in bytes)) 0 (put_part registers_at 908 bytes part)
+      ChipDone bytes (Ok tt) (Rattle.chip.specs.Chip.power_lost_of (chip_in bytes)) 0 (put_part registers_at 908 bytes part)
   unfolding chip_in Rattle.chip.specs.Chip.power_lost_of
   chip_lost_done part e =
       let lost : List ℕ = cond (ltb (get_or bytes 0 0) 5) (reset_image (get_or bytes 0 0)) (take 908 (drop registers_at bytes)) in
       let whole : part ≡ lost = e ∙ ap (λ (b : Bool). cond b lost (take 908 (drop registers_at bytes))) (eq-eqb (length (take 908 (drop registers_at bytes))) 908 (part_length registers_at 908 bytes (omega arith))) in
-      chip_done bytes _ answers.TheVariants.Accepted _ 0 h refl (ap (put_part registers_at 908 bytes) whole ∙ registers_put lost)
+      chip_done bytes _ (Ok tt) _ 0 h refl (ap (put_part registers_at 908 bytes) whole ∙ registers_put lost)
 
   pub feed_done : (list part : List ℕ) (answer : Answer) (number : ℕ) →
       answer ≡ feed_answer (chip_of (get_or bytes 0 0) (get_or bytes 1 0) (get_or bytes 2 0) (take 908 (drop registers_at bytes))) list →
@@ -357,12 +361,10 @@ pub bool_number : (b : Bool) → bool_byte b ≡ cond b 1 0
 bool_number true = refl
 bool_number false = refl
 
--- Faults on the parts of a record's bytes: its answer, and the result
-pub faults_done : (bytes : List ℕ) → length bytes ≡ record_size → (header : Header) → header ≡ header_in bytes → (given result : List ℕ)
-    (answer : faults.Answer) (new : List ℕ) →
-    (answer ≡ faults_answer (record_of header (settings_in bytes) (image_in bytes)) given result) ×
-    (new ≡ faults_result (record_of header (settings_in bytes) (image_in bytes)) given result) →
+-- Faults on a record that was read: its answer, and the result
+pub faults_done : (bytes : List ℕ) → length bytes ≡ record_size → (r : Record) → r ≡ record_in bytes → (given result : List ℕ)
+    (answer : faults.Answer) (new : List ℕ) → answer ≡ faults_answer r given result → new ≡ faults_result r given result →
     (faults_answer_by bytes (faults_answer (record_in bytes) given result) ≡ answer) × (new ≡ buffer_after bytes (faults_result (record_in bytes) given result) result)
-unfolding faults_answer_by buffer_after record_in
-faults_done bytes h header eh given result answer new made =
-    (rw (record_sized_lem bytes h, sym eh) (sym made.0), rw (record_sized_lem bytes h, sym eh) made.1)
+unfolding faults_answer_by buffer_after
+faults_done bytes h r read given result answer new ea en =
+    (rw (record_sized_lem bytes h, sym read) (sym ea), rw (record_sized_lem bytes h, sym read) en)

@@ -1,29 +1,24 @@
 -- On the bytes of a record a function leaves the bytes of the record that the call of the same name gives back, one law for each
 -- call; and on the bytes of a chip those of the chip. So what is claimed of calls on values holds of calls on bytes.
 -- Assumes nothing.
-use Rattle.std.specs.Prelude.{◌≡◌, ℕ, ◌+◌, ◌-◌, ◌*◌, ◌≤◌, length, get_or, set}
+use Rattle.std.specs.Prelude.{Ok, Err, ◌≡◌, ℕ, ◌+◌, ◌-◌, ◌*◌, ◌≤◌, length, get_or, set}
 use Rattle.std.proofs.Math.Path.{refl, ap}
 use Rattle.std.proofs.Common.{sym, ◌∙◌, arith, eqb-true}
 use Rattle.std.proofs.Math.Bool.{Bool, true, false, cond}
 use Rattle.std.proofs.lemmas.Bool.{false≢true}
 use mathlib.Core.List.{List}
-use Rattle.map.specs.declared.refusals.Answer.{Answer}
-use Rattle.map.specs.declared.refusals.Answer as answers
-use Rattle.map.specs.declared.refusals.Answer.TheVariants.{Accepted}
 use Rattle.map.specs.declared.refusals.Refusal.TheVariants.{Unsound}
-use Rattle.map.specs.Refusals.{answer_number, accepted}
+use Rattle.map.specs.Refusals.{Answer, answer_number, accepted}
 use Rattle.host.specs.declared.Record.{Record}
 use Rattle.host.specs.declared.Changed.{Changed}
 use Rattle.calls.specs.declared.Setting.{Setting}
 use Rattle.host.specs.Record.{locked, open_of, setting_of, power_lost_of, lock_of}
 use Rattle.host.proofs.SettingLaws.{Sets, setting_sets, power_refuses, lock_locks, lock_refuses}
-use Rattle.update.specs.declared.ListAnswer.{ListAnswer}
-use Rattle.update.specs.declared.ListAnswer.TheVariants.{Listed, Short, Refused}
+use Rattle.update.specs.declared.NotListed.TheVariants.{Short, Refused}
 use Rattle.update.specs.declared.Sent.{Sent}
-use Rattle.update.specs.Update.{is_listed, list_number, Sending, send_answer, send_of, send_buffer, updating, update_stored, clear_of}
+use Rattle.update.specs.Update.{ListAnswer, refused, is_listed, list_number, Sending, send_answer, send_of, send_buffer, updating, update_stored, clear_of}
 use Rattle.update.proofs.StoredLaws.{stored_is}
 use Rattle.update.specs.SendLaws.{answered, host_kept, buffer_kept, answer_of, clear_leaves}
-use Rattle.faults.specs.declared.Answer as faults
 use Rattle.faults.specs.Faults.{answer_numbers, faults_answer, faults_result}
 use Rattle.faults.proofs.FaultLaws.{refuses}
 use Rattle.chip.specs.declared.Chip.{Chip}
@@ -75,11 +70,11 @@ module _ (r : Record) (hs : length r.settings ≡ 908) (hi : length r.image ≡ 
       setting_outcome (record_bytes r) (f (record_in (record_bytes r))) ≡ outcome_of (f r)
   setting_call_lem f kept = ap (λ (x : Record). setting_outcome (record_bytes r) (f x)) (record_back r hs hi) ∙ setting_stored (f r) kept
 
-  refused : (answer : Answer) (new : List ℕ) (x : Changed) → Sets r answer new x → accepted x.answer ≡ false → x.host ≡ r
-  refused answer new x s e = s.refuses (sym (ap accepted s.answered) ∙ e)
+  refused_stays : (answer : Answer) (new : List ℕ) (x : Changed) → Sets r answer new x → accepted x.answer ≡ false → x.host ≡ r
+  refused_stays answer new x s e = s.refuses (sym (ap accepted s.answered) ∙ e)
 
   pub setting_of_call : (q : Setting) (lent : List ℕ) → setting_call (record_bytes r) q lent ≡ outcome_of (setting_of r q lent)
-  setting_of_call q lent = setting_call_lem (λ (x : Record). setting_of x q lent) (refused _ _ _ (setting_sets r q lent))
+  setting_of_call q lent = setting_call_lem (λ (x : Record). setting_of x q lent) (refused_stays _ _ _ (setting_sets r q lent))
 
   power_kept : accepted (power_lost_of r).answer ≡ false → (power_lost_of r).host ≡ r
   unfolding power_lost_of
@@ -152,10 +147,10 @@ module _ (c : Chip) (h : length c.registers ≡ 908) where
       ap (λ (x : Chip). chip_outcome (chip_bytes c) (feed_of x list).answer (feed_of x list).chip) (chip_back c h)
       ∙ chip_stored (feed_of c list).answer (feed_of c list).chip (feed_kept list)
 
-  pub chip_power_lost_call_lem : chip_power_lost_call (chip_bytes c) ≡ chip_outcome_of Accepted (Rattle.chip.specs.Chip.power_lost_of c)
+  pub chip_power_lost_call_lem : chip_power_lost_call (chip_bytes c) ≡ chip_outcome_of (Ok tt) (Rattle.chip.specs.Chip.power_lost_of c)
   chip_power_lost_call_lem =
-      ap (λ (x : Chip). chip_outcome (chip_bytes c) Accepted (Rattle.chip.specs.Chip.power_lost_of x)) (chip_back c h)
-      ∙ chip_stored Accepted (Rattle.chip.specs.Chip.power_lost_of c) (λ e. absurd (false≢true (sym e)))
+      ap (λ (x : Chip). chip_outcome (chip_bytes c) (Ok tt) (Rattle.chip.specs.Chip.power_lost_of x)) (chip_back c h)
+      ∙ chip_stored (Ok tt) (Rattle.chip.specs.Chip.power_lost_of c) (λ e. absurd (false≢true (sym e)))
 
 -- ---- Opened
 
@@ -163,7 +158,7 @@ module _ (c : Chip) (h : length c.registers ≡ 908) where
 zero_sized : (sized : Bool) (answer : Answer) → answer_number (when_sized sized answer) ≡ 0 → (sized ≡ true) × (accepted answer ≡ true)
 unfolding when_sized
 zero_sized true answer e = (refl, zero_accepted answer e)
-zero_sized false answer e = absurd (false≢true (zero_accepted (answers.TheVariants.Refused Unsound) e))
+zero_sized false answer e = absurd (false≢true (zero_accepted (Err Unsound) e))
 
 module _ (m b p : ℕ) (bytes : List ℕ) where
   -- lp586x_open that answers 0 was accepted,
@@ -206,17 +201,17 @@ module _ (f : Record → Sending) (bytes buffer : List ℕ) (n t : ℕ) where
   send_inside s z = go (record_sized bytes) z
     where
       answer : Bool → ListAnswer
-      answer b = cond b (send_answer r (f r) (length buffer)) (Refused Unsound)
+      answer b = cond b (send_answer r (f r) (length buffer)) (refused Unsound)
 
       listed : (x : ListAnswer) → send_answer r (f r) (length buffer) ≡ x → list_number x ≡ 0 → 4 + 2 * n_after x n + t_after x t ≤ length buffer
-      listed (Listed k u) e y =
-          let a = answered r (f r) s (length buffer) k u e in omega (arith, a.room, a.n_is, a.t_is)
-      listed (Short needed) e y = absurd (false≢true (zero_listed (Short needed) y))
-      listed (Refused x) e y = absurd (false≢true (zero_listed (Refused x) y))
+      listed (Ok l) e y =
+          let a = answered r (f r) s (length buffer) l.n l.t e in omega (arith, a.room, a.n_is, a.t_is)
+      listed (Err (Short needed)) e y = absurd (false≢true (zero_listed (Err (Short needed)) y))
+      listed (Err (Refused x)) e y = absurd (false≢true (zero_listed (Err (Refused x)) y))
 
       go : (b : Bool) → list_number (answer b) ≡ 0 → 4 + 2 * n_after (answer b) n + t_after (answer b) t ≤ length buffer
       go true y = listed (send_answer r (f r) (length buffer)) refl y
-      go false y = absurd (false≢true (zero_listed (Refused Unsound) y))
+      go false y = absurd (false≢true (zero_listed (refused Unsound) y))
 
   -- the record, the buffer, n and t are as they were
   pub record Unchanged : Type 0 where
@@ -235,7 +230,7 @@ module _ (f : Record → Sending) (bytes buffer : List ℕ) (n t : ℕ) where
     t_stays = (list_keeps (list_answer bytes (send_of r (f r) (length buffer))) z).t_stays t;
   }
     where
-      lent : (b : Bool) → (list_number (cond b (send_of r (f r) (length buffer)).answer (Refused Unsound)) ≡ 0 → ⊥) →
+      lent : (b : Bool) → (list_number (cond b (send_of r (f r) (length buffer)).answer (refused Unsound)) ≡ 0 → ⊥) →
           cond b (send_buffer r (f r) buffer) buffer ≡ buffer
       lent true y = buffer_kept r (f r) buffer (list_keeps (send_answer r (f r) (length buffer)) y).unlisted
       lent false y = refl
@@ -255,7 +250,7 @@ module _ (bytes given result : List ℕ) (opens shorts : ℕ) where
   faults_refused = go (record_sized bytes) refl
     where
       go : (b : Bool) → record_sized bytes ≡ b →
-          (get_or (answer_numbers (cond b (faults_answer (record_in bytes) given result) (faults.TheVariants.Refused Unsound))) 0 0 ≡ 0 → ⊥) → FaultsKept
+          (get_or (answer_numbers (cond b (faults_answer (record_in bytes) given result) (Err Unsound))) 0 0 ≡ 0 → ⊥) → FaultsKept
       go false e z = record { result_stays = rw e refl; opens_stay = rw e refl; shorts_stay = rw e refl }
       go true e z =
           let x = refuses (record_in bytes) given result z in
@@ -272,17 +267,17 @@ module _ (bytes buffer : List ℕ) (n t stored : ℕ) where
     where
       listed : (x : ListAnswer) → send_answer (record_in bytes) (updating (record_in bytes)) (length buffer) ≡ x → list_number x ≡ 0 →
           stored_after x (update_stored (record_in bytes) (length buffer)) stored ≡ t_after x t - 2 * n_after x n
-      listed (Listed k u) e y = stored_is (record_in bytes) (length buffer) k u e
-      listed (Short needed) e y = absurd (false≢true (zero_listed (Short needed) y))
-      listed (Refused x) e y = absurd (false≢true (zero_listed (Refused x) y))
+      listed (Ok l) e y = stored_is (record_in bytes) (length buffer) l.n l.t e
+      listed (Err (Short needed)) e y = absurd (false≢true (zero_listed (Err (Short needed)) y))
+      listed (Err (Refused x)) e y = absurd (false≢true (zero_listed (Err (Refused x)) y))
 
       answer : Bool → ListAnswer
-      answer b = cond b (send_answer (record_in bytes) (updating (record_in bytes)) (length buffer)) (Refused Unsound)
+      answer b = cond b (send_answer (record_in bytes) (updating (record_in bytes)) (length buffer)) (refused Unsound)
 
       go : (b : Bool) → list_number (answer b) ≡ 0 →
           stored_after (answer b) (update_stored (record_in bytes) (length buffer)) stored ≡ t_after (answer b) t - 2 * n_after (answer b) n
       go true y = listed (send_answer (record_in bytes) (updating (record_in bytes)) (length buffer)) refl y
-      go false y = absurd (false≢true (zero_listed (Refused Unsound) y))
+      go false y = absurd (false≢true (zero_listed (refused Unsound) y))
 
   -- and "A refused call changes no byte that was lent to it"
   pub update_refused : ((update_call bytes buffer n t).answer ≡ 0 → ⊥) → update_stores bytes buffer stored ≡ stored

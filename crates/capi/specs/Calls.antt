@@ -1,15 +1,13 @@
 -- What each function of include/lp586x.h answers and leaves: the call of the same name, on the record or the chip that the bytes
 -- hold. The functions' promises are these definitions, and so is the claim about whole lists of C calls (the crate panel).
 -- Assumes nothing.
-use Rattle.std.specs.Prelude.{List, ℕ, length}
-use Rattle.map.specs.declared.refusals.Answer.TheVariants.{Accepted}
+use Rattle.std.specs.Prelude.{Ok, List, ℕ, length}
 use Rattle.map.specs.declared.refusals.Numbers.{Numbers}
 use Rattle.burst.specs.Burst.{place_of}
 use Rattle.calls.specs.declared.Setting.{Setting}
 use Rattle.host.specs.Record.{open_of, setting_of, power_lost_of, lock_of}
 use Rattle.host.specs.declared.Record.{Record}
-use Rattle.update.specs.declared.ListAnswer.{ListAnswer}
-use Rattle.update.specs.Update.{Sending, send_of, send_buffer, updating, update_stored, resetting, clearing}
+use Rattle.update.specs.Update.{ListAnswer, Sending, send_of, send_buffer, updating, update_stored, resetting, clearing}
 use Rattle.rounds.specs.Round.{present_at, record_at, round_buffer, round_of, present_by}
 use Rattle.faults.specs.Faults.{faults_answer, faults_result}
 use Rattle.chip.specs.Chip.{at_reset_of, feed_of}
@@ -95,7 +93,7 @@ chip_at_reset_call bytes m b p = chip_outcome bytes (at_reset_of m b p).answer (
 
 -- lp586x_chip_power_lost
 abbrev pub chip_power_lost_call : List ℕ → Outcome
-chip_power_lost_call bytes = chip_outcome bytes Accepted (Rattle.chip.specs.Chip.power_lost_of (chip_in bytes))
+chip_power_lost_call bytes = chip_outcome bytes (Ok tt) (Rattle.chip.specs.Chip.power_lost_of (chip_in bytes))
 
 -- lp586x_chip_feed
 abbrev pub chip_feed_call : List ℕ → List ℕ → Outcome

@@ -1,27 +1,25 @@
 -- The C interface, include/lp586x.h: records and chips as the caller's bytes, and what a call answers and leaves in the memory that
 -- it was lent. The sentences are the header's. r is a record, c a chip, x what a call on values gives back.
 -- Assumes nothing.
-use Rattle.std.specs.Prelude.{Bool, cond, ◌&&◌, List, [], ◌∷◌, ◌++◌, ℕ, ◌+◌, ◌*◌, ◌<◌, ◌^◌, leb, eqb, length, get_or, take, drop}
-use Rattle.map.specs.declared.refusals.Answer.{Answer}
-use Rattle.map.specs.declared.refusals.Answer as answers
+use Rattle.std.specs.Prelude.{Result, Ok, Err, Bool, cond, ◌&&◌, List, [], ◌∷◌, ◌++◌, ℕ, ◌+◌, ◌*◌, ◌<◌, ◌^◌, leb, eqb, length, get_or, take, drop}
 use Rattle.map.specs.declared.refusals.Refusal.TheVariants.{BufferShort, ListSizes, Unsound, NoTransaction}
 use Rattle.map.specs.declared.refusals.Numbers.{Numbers}
-use Rattle.map.specs.Refusals.{refusal_number, answer_number, numbers_of, accepted}
+use Rattle.map.specs.Refusals.{Answer, refusal_number, answer_number, numbers_of, accepted}
 use Rattle.burst.specs.declared.places.Place.{Place}
-use Rattle.burst.specs.declared.places.Place.TheVariants.{At, BadSizes, NoIndex}
+use Rattle.burst.specs.declared.places.PlaceError.{PlaceError}
+use Rattle.burst.specs.declared.places.PlaceError.TheVariants.{BadSizes, NoIndex}
 use Rattle.host.specs.declared.Record.{Record}
 use Rattle.host.specs.declared.Changed.{Changed}
 use Rattle.host.specs.declared.Header.{Header}
 use Rattle.host.specs.Record.{header_of, record_of}
-use Rattle.update.specs.declared.ListAnswer.{ListAnswer}
-use Rattle.update.specs.declared.ListAnswer.TheVariants.{Listed, Short, Refused}
+use Rattle.update.specs.declared.NotListed.TheVariants.{Short, Refused}
 use Rattle.update.specs.declared.Sent.{Sent}
-use Rattle.update.specs.Update.{list_numbers, update_numbers, list_number, is_listed}
+use Rattle.update.specs.Update.{ListAnswer, refused, list_numbers, update_numbers, list_number, is_listed}
 use Rattle.rounds.specs.declared.Headers.{Headers}
 use Rattle.rounds.specs.declared.Present.{Present}
 use Rattle.rounds.specs.declared.Records.{Records}
 use Rattle.rounds.specs.declared.Rounded.{Rounded}
-use Rattle.faults.specs.declared.Answer as faults
+use Rattle.faults.specs.Faults as faults
 use Rattle.faults.specs.Faults.{answer_numbers}
 use Rattle.chip.specs.declared.Chip.{Chip}
 use Rattle.chip.specs.Chip.{chip_of}
@@ -143,7 +141,7 @@ round_sized bytes present = eqb (length bytes) (place_at 4) && leb present 15
 
 -- "14 unsound record or chip, or its size is wrong"
 unfoldable pub when_sized : Bool → Answer → Answer
-when_sized sized answer = cond sized answer (answers.TheVariants.Refused Unsound)
+when_sized sized answer = cond sized answer (Err Unsound)
 
 -- what such a call answers, and the bytes of the record or chip as it leaves them
 pub record Outcome : Type 0 where
@@ -182,7 +180,7 @@ chip_outcome bytes answer c = record { answer = chip_number bytes answer; bytes 
 
 -- "14 unsound record or chip, or its size is wrong", as the answer of a list
 unfoldable pub list_answer : List ℕ → Sent → ListAnswer
-list_answer bytes x = cond (record_sized bytes) x.answer (Refused Unsound)
+list_answer bytes x = cond (record_sized bytes) x.answer (refused Unsound)
 
 -- "A refused call changes no byte that was lent to it": the record's bytes after a list, or the old ones
 unfoldable pub list_bytes : List ℕ → Sent → List ℕ
@@ -233,7 +231,7 @@ list_outcome bytes x new buffer n t = record {
 
 -- "14 (a present record, records_size, or present above 15)", as the answer of a round
 unfoldable pub round_answer_by : List ℕ → ℕ → ListAnswer → ListAnswer
-round_answer_by bytes present answer = cond (round_sized bytes present) answer (Refused Unsound)
+round_answer_by bytes present answer = cond (round_sized bytes present) answer (refused Unsound)
 
 -- a round's outcome, by what the call on the four records gives back, x, and the buffer as that call leaves it, new
 abbrev pub round_outcome : List ℕ → ℕ → Rounded → List ℕ → List ℕ → ℕ → ℕ → ListOutcome
@@ -249,17 +247,17 @@ round_outcome bytes present x new buffer n t =
 
 -- every value of an answer fits the 32 bits that it is stored in
 abbrev pub Fits : ListAnswer → Type 0
-Fits (Listed n t) = (n < 2 ^ 32) × (t < 2 ^ 32)
-Fits (Short needed) = needed < 2 ^ 32
-Fits (Refused refusal) = Unit
+Fits (Ok l) = (l.n < 2 ^ 32) × (l.t < 2 ^ 32)
+Fits (Err (Short needed)) = needed < 2 ^ 32
+Fits (Err (Refused refusal)) = Unit
 
 -- ---- The transactions of a list
 
 -- the number of a place and its values: "11 sizes of a list do not add up", "26 no such transaction"
-unfoldable pub place_numbers : Place → List ℕ
-place_numbers (At offset size) = 0 ∷ offset ∷ size ∷ []
-place_numbers BadSizes = refusal_number ListSizes ∷ []
-place_numbers NoIndex = refusal_number NoTransaction ∷ []
+unfoldable pub place_numbers : Result Place PlaceError → List ℕ
+place_numbers (Ok p) = 0 ∷ p.offset ∷ p.length ∷ []
+place_numbers (Err BadSizes) = refusal_number ListSizes ∷ []
+place_numbers (Err NoIndex) = refusal_number NoTransaction ∷ []
 
 -- what such a call answers, and the two numbers as it leaves them
 pub record PlaceOutcome : Type 0 where
@@ -268,7 +266,7 @@ pub record PlaceOutcome : Type 0 where
   pub size : ℕ
 
 -- "0 stores both.": else what stood there stays
-abbrev pub place_outcome : Place → ℕ → ℕ → PlaceOutcome
+abbrev pub place_outcome : Result Place PlaceError → ℕ → ℕ → PlaceOutcome
 place_outcome place offset size = record {
   answer = get_or (place_numbers place) 0 0;
   offset = get_or (place_numbers place) 1 offset;
@@ -279,7 +277,7 @@ place_outcome place offset size = record {
 
 -- "14 unsound record or chip, or its size is wrong", as the answer of Faults
 unfoldable pub faults_answer_by : List ℕ → faults.Answer → faults.Answer
-faults_answer_by bytes answer = cond (record_sized bytes) answer (faults.TheVariants.Refused Unsound)
+faults_answer_by bytes answer = cond (record_sized bytes) answer (Err Unsound)
 
 -- what it answers, and what it leaves: the result and the two answers about 064h
 pub record FaultsOutcome : Type 0 where

@@ -1,25 +1,22 @@
 -- Laws of the C interface: records and chips read back from their bytes, what a refused call leaves, and what 0 stores.
 -- Assumes nothing.
-use Rattle.std.specs.Prelude.{◌≡◌, Bool, true, false, cond, ℕ, suc, ◌+◌, ◌≤◌, leb, eqb, length, get_or, set}
+use Rattle.std.specs.Prelude.{Ok, Err, ◌≡◌, Bool, true, false, cond, ℕ, suc, ◌+◌, ◌≤◌, leb, eqb, length, get_or, set}
 use Rattle.std.proofs.Math.Path.{refl, sym, ap}
 use Rattle.std.proofs.Common.{ap₂, ◌∙◌, arith, length-append, take_all, take_at, drop_at, take-add, drop-drop}
 use Rattle.std.proofs.lemmas.Bool.{false≢true}
 use mathlib.Core.List.{List, [], ◌∷◌, ◌++◌, append_assoc, append-nil}
 use borrow.Author.Tests.{eq-eqb, ne_eqb, eqb-true, le-leb}
 use Rattle.std.proofs.Math.ListN.{take, drop, length-drop, take-append-drop}
-use Rattle.map.specs.declared.refusals.Answer.{Answer}
-use Rattle.map.specs.declared.refusals.Answer as answers
 use Rattle.map.specs.declared.refusals.Refusal.{Refusal}
 use Rattle.map.specs.declared.refusals.Refusal.TheVariants.{Member, Bus, Pins, NotWritable, ReservedBit, NoDot, Level, GroupOrState, SceneLength, BufferShort, ListSizes, FaultLength, Unsound, RoundLimit, NotItsPlace, Locked, NotLockable, NoTransaction}
-use Rattle.map.specs.Refusals.{refusal_number, answer_number, accepted}
+use Rattle.map.specs.Refusals.{Answer, refusal_number, answer_number, accepted}
 use Rattle.burst.specs.BurstLaws.{and_left}
 use Rattle.host.specs.declared.Record.{Record}
 use Rattle.host.specs.declared.Changed.{Changed}
 use Rattle.host.specs.Record.{record_of, marked_as}
-use Rattle.update.specs.declared.ListAnswer.{ListAnswer}
-use Rattle.update.specs.declared.ListAnswer.TheVariants.{Listed, Short, Refused}
+use Rattle.update.specs.declared.NotListed.TheVariants.{Short, Refused}
 use Rattle.update.specs.declared.Sent.{Sent}
-use Rattle.update.specs.Update.{is_listed, list_number}
+use Rattle.update.specs.Update.{ListAnswer, listed, is_listed, list_number}
 use Rattle.chip.specs.declared.Chip.{Chip}
 use Rattle.chip.specs.Chip.{chip_of}
 use Rattle.capi.specs.Capi.{header_in, marks_at, settings_at, settings_in, image_at, image_in, record_in, header_bytes, record_bytes, registers_at, chip_in, chip_bytes, record_size, record_sized, place_at, records_in, records_bytes, round_sized, chip_size, chip_sized, when_sized, setting_number, setting_bytes, chip_number, chip_after, list_answer, list_bytes, value_after, n_after, t_after, stored_after, needed_after}
@@ -213,25 +210,25 @@ refusal_some NoTransaction e = omega arith
 
 -- an accepted call answers 0
 pub accepted_zero : (answer : Answer) → accepted answer ≡ true → answer_number answer ≡ 0
-accepted_zero answers.TheVariants.Accepted e = refl
-accepted_zero (answers.TheVariants.Refused x) e = absurd (false≢true e)
+accepted_zero (Ok u) e = refl
+accepted_zero (Err x) e = absurd (false≢true e)
 
 -- a call that answers 0 was accepted
 pub zero_accepted : (answer : Answer) → answer_number answer ≡ 0 → accepted answer ≡ true
-zero_accepted answers.TheVariants.Accepted e = refl
-zero_accepted (answers.TheVariants.Refused x) e = absurd (refusal_some x e)
+zero_accepted (Ok u) e = refl
+zero_accepted (Err x) e = absurd (refusal_some x e)
 
 -- and one that writes a list wrote it
 pub zero_listed : (answer : ListAnswer) → list_number answer ≡ 0 → is_listed answer ≡ true
-zero_listed (Listed n t) e = refl
-zero_listed (Short needed) e = absurd (omega arith)
-zero_listed (Refused x) e = absurd (refusal_some x e)
+zero_listed (Ok l) e = refl
+zero_listed (Err (Short needed)) e = absurd (omega arith)
+zero_listed (Err (Refused x)) e = absurd (refusal_some x e)
 
 -- ---- "A refused call changes no byte that was lent to it": calls that answer a number alone
 
 answer_keeps : (answer : Answer) (new old : List ℕ) → (answer_number answer ≡ 0 → ⊥) → cond (accepted answer) new old ≡ old
-answer_keeps answers.TheVariants.Accepted new old n = absurd (n refl)
-answer_keeps (answers.TheVariants.Refused x) new old n = refl
+answer_keeps (Ok u) new old n = absurd (n refl)
+answer_keeps (Err x) new old n = refl
 
 -- of a setting
 pub setting_keeps : (bytes : List ℕ) (x : Changed) → (setting_number bytes x ≡ 0 → ⊥) → setting_bytes bytes x ≡ bytes
@@ -255,11 +252,11 @@ refused_stores number place x old = same (eqb (refusal_number x) number)
     same false = refl
 
 -- an answer of 0 is a list with the n and t that are stored
-pub zero_stores : (answer : ListAnswer) (n t : ℕ) → list_number answer ≡ 0 → answer ≡ Listed (n_after answer n) (t_after answer t)
+pub zero_stores : (answer : ListAnswer) (n t : ℕ) → list_number answer ≡ 0 → answer ≡ listed (n_after answer n) (t_after answer t)
 unfolding value_after
-zero_stores (Listed k u) n t e = refl
-zero_stores (Short needed) n t e = absurd (omega arith)
-zero_stores (Refused x) n t e = absurd (refusal_some x e)
+zero_stores (Ok l) n t e = refl
+zero_stores (Err (Short needed)) n t e = absurd (omega arith)
+zero_stores (Err (Refused x)) n t e = absurd (refusal_some x e)
 
 -- a list's answer that is no list leaves n, t and what depends on it
 pub record Kept (answer : ListAnswer) : Type 0 where
@@ -269,23 +266,23 @@ pub record Kept (answer : ListAnswer) : Type 0 where
 
 pub list_keeps : (answer : ListAnswer) → (list_number answer ≡ 0 → ⊥) → Kept answer
 unfolding value_after
-list_keeps (Listed n t) z = absurd (z refl)
-list_keeps (Short needed) z = record { n_stays = λ n. refl; t_stays = λ t. refl; unlisted = refl }
-list_keeps (Refused x) z = record { n_stays = λ n. refused_stores 0 0 x n; t_stays = λ t. refused_stores 0 1 x t; unlisted = refl }
+list_keeps (Ok l) z = absurd (z refl)
+list_keeps (Err (Short needed)) z = record { n_stays = λ n. refl; t_stays = λ t. refl; unlisted = refl }
+list_keeps (Err (Refused x)) z = record { n_stays = λ n. refused_stores 0 0 x n; t_stays = λ t. refused_stores 0 1 x t; unlisted = refl }
 
 -- and what an update stores of it
 pub stored_keeps : (answer : ListAnswer) (count old : ℕ) → (list_number answer ≡ 0 → ⊥) → stored_after answer count old ≡ old
 unfolding value_after
-stored_keeps (Listed n t) count old z = absurd (z refl)
-stored_keeps (Short needed) count old z = refl
-stored_keeps (Refused x) count old z = refused_stores 0 2 x old
+stored_keeps (Ok l) count old z = absurd (z refl)
+stored_keeps (Err (Short needed)) count old z = refl
+stored_keeps (Err (Refused x)) count old z = refused_stores 0 2 x old
 
 -- "10 of lp586x_update alone stores the length needed"
 pub needed_keeps : (answer : ListAnswer) (needed : ℕ) → (list_number answer ≡ refusal_number BufferShort → ⊥) → needed_after answer needed ≡ needed
 unfolding value_after
-needed_keeps (Listed n t) needed z = refl
-needed_keeps (Short size) needed z = absurd (z refl)
-needed_keeps (Refused x) needed z = refused_stores (refusal_number BufferShort) 0 x needed
+needed_keeps (Ok l) needed z = refl
+needed_keeps (Err (Short size)) needed z = absurd (z refl)
+needed_keeps (Err (Refused x)) needed z = refused_stores (refusal_number BufferShort) 0 x needed
 
 -- the record stays
 pub bytes_keep : (bytes : List ℕ) (x : Sent) → (list_number (list_answer bytes x) ≡ 0 → ⊥) → list_bytes bytes x ≡ bytes

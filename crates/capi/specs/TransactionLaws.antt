@@ -1,23 +1,24 @@
 -- What lp586x_transaction finds: of a list of good sizes each of its n transactions. Where it refuses, it stores nothing.
 -- Assumes nothing.
-use Rattle.std.specs.Prelude.{◌≡◌, true, List, [], ℕ, ◌+◌, ◌≤◌, ◌<◌, length, get_or, take, drop}
+use Rattle.std.specs.Prelude.{Result, Ok, Err, ◌≡◌, true, List, [], ℕ, ◌+◌, ◌≤◌, ◌<◌, length, get_or, take, drop}
 use Rattle.std.proofs.Math.Path.{refl}
 use Rattle.std.proofs.Common.{arith}
 use borrow.Author.Tests.{lt-ltb}
 use Rattle.burst.specs.declared.places.Place.{Place}
-use Rattle.burst.specs.declared.places.Place.TheVariants.{At, BadSizes, NoIndex}
-use Rattle.burst.specs.Burst.{n_of, transactions, sizes_good, place_of}
+use Rattle.burst.specs.declared.places.PlaceError.{PlaceError}
+use Rattle.burst.specs.declared.places.PlaceError.TheVariants.{BadSizes, NoIndex}
+use Rattle.burst.specs.Burst.{at, n_of, transactions, sizes_good, place_of}
 use Rattle.burst.specs.PlaceLaws.{transaction_stands, placed}
 use Rattle.capi.specs.Capi.{place_numbers, place_outcome}
 use Rattle.capi.specs.Calls.{transaction_call}
 
 -- an answer of 0 is a place, with the two numbers that are stored
-zero_at_lem : (place : Place) (offset size : ℕ) → (place_outcome place offset size).answer ≡ 0 →
-    place ≡ At (place_outcome place offset size).offset (place_outcome place offset size).size
+zero_at_lem : (place : Result Place PlaceError) (offset size : ℕ) → (place_outcome place offset size).answer ≡ 0 →
+    place ≡ at (place_outcome place offset size).offset (place_outcome place offset size).size
 unfolding place_numbers
-zero_at_lem (At first count) offset size e = refl
-zero_at_lem BadSizes offset size e = absurd (omega arith)
-zero_at_lem NoIndex offset size e = absurd (omega arith)
+zero_at_lem (Ok p) offset size e = refl
+zero_at_lem (Err BadSizes) offset size e = absurd (omega arith)
+zero_at_lem (Err NoIndex) offset size e = absurd (omega arith)
 
 module _ (list : List ℕ) (index offset size : ℕ) where
   -- the list has this transaction, and its bytes are those that stand at the place
@@ -57,7 +58,7 @@ module _ (list : List ℕ) (index offset size : ℕ) where
   unfolding place_numbers
   transaction_refused = go (place_of list index) refl
     where
-      go : (place : Place) → place_of list index ≡ place → ((place_outcome place offset size).answer ≡ 0 → ⊥) → Left
-      go (At first count) e z = absurd (z refl)
-      go BadSizes e z = record { offset_stays = rw e refl; size_stays = rw e refl }
-      go NoIndex e z = record { offset_stays = rw e refl; size_stays = rw e refl }
+      go : (place : Result Place PlaceError) → place_of list index ≡ place → ((place_outcome place offset size).answer ≡ 0 → ⊥) → Left
+      go (Ok p) e z = absurd (z refl)
+      go (Err BadSizes) e z = record { offset_stays = rw e refl; size_stays = rw e refl }
+      go (Err NoIndex) e z = record { offset_stays = rw e refl; size_stays = rw e refl }

@@ -15,9 +15,10 @@ ghost use Rattle.map.specs.Refusals.{refusal_number};
 ghost use Rattle.faults.specs.Faults.{answer_numbers};
 ghost use Rattle.capi.specs.Calls.{open_call, setting_call, setting_numbers_call, power_lost_call, lock_call, update_call, update_stores, update_needed, reset_call, clear_call, round_call, transaction_call, faults_call, chip_at_reset_call, chip_power_lost_call, chip_feed_call};
 
-use burst::Place;
+use burst::{Place, PlaceError};
 use calls::Setting;
-use map::{Answer, Numbers, Refusal};
+use faults::Agreement;
+use map::{Numbers, Refusal};
 use records::{CHIP_SIZE, IMAGE, RECORD_SIZE, REGISTERS, SETTINGS};
 
 // The answer to bytes of another size: that of an unsound record.
@@ -36,13 +37,12 @@ pub fn lp586x_open(bytes: &mut [u8], member: u32, bus: u32, pins: u32) -> u32
     if bytes.len() != RECORD_SIZE {
         return wrong_size();
     }
-    let answer = map::open_answer(member as usize, bus as usize, pins as usize);
-    match answer {
-        Answer::Accepted => {
+    match map::open_answer(member as usize, bus as usize, pins as usize) {
+        Ok(()) => {
             records::put_record(bytes, member as usize, bus as usize, pins as usize);
             0
         }
-        Answer::Refused(refusal) => map::refusal_number(refusal) as u32,
+        Err(refusal) => map::refusal_number(refusal) as u32,
     }
 }
 
@@ -54,10 +54,9 @@ pub fn set_numbers(bytes: &mut [u8], setting: Setting, lent: &[u8]) -> Numbers
     if bytes.len() != RECORD_SIZE {
         return map::number_alone(wrong_size() as usize);
     }
-    let header = records::header(bytes);
-    let settings = &bytes[SETTINGS..IMAGE];
-    let image = &bytes[IMAGE..RECORD_SIZE];
-    let answer = host::setting_answer(header, settings, image, setting, lent);
+    let r = records::record(bytes);
+    let answer = host::setting_answer(r, setting, lent);
+    let header = r.header;
     host::put_setting(answer, header, &mut bytes[SETTINGS..IMAGE], setting, lent)
 }
 
@@ -66,8 +65,7 @@ pub fn set(bytes: &mut [u8], setting: Setting, lent: &[u8]) -> u32
     ensures value { result ≡ (setting_call bytes.old setting lent.now).answer }
     ensures bytes_after { bytes.new ≡ (setting_call bytes.old setting lent.now).bytes }
 {
-    let numbers = set_numbers(bytes, setting, lent);
-    numbers.number as u32
+    set_numbers(bytes, setting, lent).values[0] as u32
 }
 
 pub fn lp586x_register(bytes: &mut [u8], address: u32, value: u32) -> u32
@@ -131,10 +129,13 @@ pub fn lp586x_power_lost(bytes: &mut [u8]) -> u32
     if bytes.len() != RECORD_SIZE {
         return wrong_size();
     }
-    let header = records::header(bytes);
-    let answer = host::sound_answer(header, &bytes[SETTINGS..IMAGE], &bytes[IMAGE..RECORD_SIZE]);
-    records::put_lost(answer, header, bytes);
-    map::answer_number(answer) as u32
+    match host::sound_answer(records::record(bytes)) {
+        Ok(()) => {
+            records::put_reset(bytes);
+            0
+        }
+        Err(refusal) => map::refusal_number(refusal) as u32,
+    }
 }
 
 pub fn lp586x_lock(bytes: &mut [u8]) -> u32
@@ -144,10 +145,13 @@ pub fn lp586x_lock(bytes: &mut [u8]) -> u32
     if bytes.len() != RECORD_SIZE {
         return wrong_size();
     }
-    let header = records::header(bytes);
-    let answer = host::lock_answer(header, &bytes[SETTINGS..IMAGE], &bytes[IMAGE..RECORD_SIZE]);
-    records::mark(answer, bytes, host::LOCKED);
-    map::answer_number(answer) as u32
+    match host::lock_answer(records::record(bytes)) {
+        Ok(()) => {
+            records::put_marks(bytes, host::LOCKED);
+            0
+        }
+        Err(refusal) => map::refusal_number(refusal) as u32,
+    }
 }
 
 // ---- Lists of bus writes
@@ -171,10 +175,9 @@ pub fn lp586x_update(
     if bytes.len() != RECORD_SIZE {
         return wrong_size();
     }
-    let header = records::header(bytes);
-    let settings = &bytes[SETTINGS..IMAGE];
-    let image = &bytes[IMAGE..RECORD_SIZE];
-    let answer = update::update_parts(header, settings, image, buffer);
+    let r = records::record(bytes);
+    let answer = update::update_parts(r, buffer);
+    let header = r.header;
     let sent = update::store_sent(answer, header, &mut bytes[IMAGE..RECORD_SIZE], buffer);
     lists::put_update(answer, sent, n, t, stored, needed)
 }
@@ -189,12 +192,10 @@ pub fn lp586x_reset(bytes: &mut [u8], buffer: &mut [u8], n: &mut u32, t: &mut u3
     if bytes.len() != RECORD_SIZE {
         return wrong_size();
     }
-    let header = records::header(bytes);
-    let settings = &bytes[SETTINGS..IMAGE];
-    let image = &bytes[IMAGE..RECORD_SIZE];
-    let answer = update::reset_parts(header, settings, image, buffer);
-    lists::keep_reset(answer, header, &mut bytes[IMAGE..RECORD_SIZE]);
-    lists::release(answer, bytes);
+    let answer = update::reset_parts(records::record(bytes), buffer);
+    if answer.is_ok() {
+        records::put_reset(bytes);
+    }
     lists::count(answer, n, t)
 }
 
@@ -207,10 +208,7 @@ pub fn lp586x_clear(bytes: &[u8], buffer: &mut [u8], n: &mut u32, t: &mut u32) -
     if bytes.len() != RECORD_SIZE {
         return wrong_size();
     }
-    let header = records::header(bytes);
-    let settings = &bytes[SETTINGS..IMAGE];
-    let image = &bytes[IMAGE..RECORD_SIZE];
-    let answer = update::clear_parts(header, settings, image, buffer);
+    let answer = update::clear_parts(records::record(bytes), buffer);
     lists::count(answer, n, t)
 }
 
@@ -241,39 +239,35 @@ pub fn lp586x_transaction(list: &[u8], index: u32, offset: &mut u32, size: &mut 
     ensures offset_after { offset.new ≡ (transaction_call list.now index offset.old size.old).offset }
     ensures size_after { size.new ≡ (transaction_call list.now index offset.old size.old).size }
 {
-    let place = burst::transaction(list, index as usize);
-    match place {
-        Place::At {
+    match burst::transaction(list, index as usize) {
+        Ok(Place {
             offset: first,
             length: count,
-        } => {
+        }) => {
             *offset = first as u32;
             *size = count as u32;
             0
         }
-        Place::BadSizes => map::refusal_number(Refusal::ListSizes) as u32,
-        Place::NoIndex => map::refusal_number(Refusal::NoTransaction) as u32,
+        Err(PlaceError::BadSizes) => map::refusal_number(Refusal::ListSizes) as u32,
+        Err(PlaceError::NoIndex) => map::refusal_number(Refusal::NoTransaction) as u32,
     }
 }
 
 // ---- Lamp faults
 
 // The number of the answer, and the two answers about 064h.
-fn agree(answer: faults::Answer, opens: &mut u32, shorts: &mut u32) -> u32
+fn agree(answer: Result<Agreement, Refusal>, opens: &mut u32, shorts: &mut u32) -> u32
     ensures value { result ≡ get_or (answer_numbers answer) 0 0 }
     ensures opens_after { opens.new ≡ get_or (answer_numbers answer) 1 opens.old }
     ensures shorts_after { shorts.new ≡ get_or (answer_numbers answer) 2 shorts.old }
 {
     match answer {
-        faults::Answer::Read {
-            opens_agree,
-            shorts_agree,
-        } => {
-            *opens = opens_agree as u32;
-            *shorts = shorts_agree as u32;
+        Ok(agrees) => {
+            *opens = agrees.opens as u32;
+            *shorts = agrees.shorts as u32;
             0
         }
-        faults::Answer::Refused(refusal) => map::refusal_number(refusal) as u32,
+        Err(refusal) => map::refusal_number(refusal) as u32,
     }
 }
 
@@ -292,10 +286,7 @@ pub fn lp586x_faults(
     if bytes.len() != RECORD_SIZE {
         return wrong_size();
     }
-    let header = records::header(bytes);
-    let settings = &bytes[SETTINGS..IMAGE];
-    let image = &bytes[IMAGE..RECORD_SIZE];
-    let answer = faults::faults_parts(header, settings, image, given, res);
+    let answer = faults::faults_parts(records::record(bytes), given, res);
     agree(answer, opens, shorts)
 }
 
@@ -308,13 +299,12 @@ pub fn lp586x_chip_at_reset(bytes: &mut [u8], member: u32, bus: u32, pins: u32) 
     if bytes.len() != CHIP_SIZE {
         return wrong_size();
     }
-    let answer = map::open_answer(member as usize, bus as usize, pins as usize);
-    match answer {
-        Answer::Accepted => {
+    match map::open_answer(member as usize, bus as usize, pins as usize) {
+        Ok(()) => {
             records::put_chip(bytes, member as usize, bus as usize, pins as usize);
             0
         }
-        Answer::Refused(refusal) => map::refusal_number(refusal) as u32,
+        Err(refusal) => map::refusal_number(refusal) as u32,
     }
 }
 
@@ -337,9 +327,7 @@ pub fn lp586x_chip_feed(bytes: &mut [u8], list: &[u8]) -> u32
     if bytes.len() != CHIP_SIZE {
         return wrong_size();
     }
-    let member = bytes[0];
-    let bus = bytes[1];
-    let pins = bytes[2];
+    let (member, bus, pins) = (bytes[0], bytes[1], bytes[2]);
     let answer = chip::feed_registers(member, bus, pins, &mut bytes[REGISTERS..CHIP_SIZE], list);
     map::answer_number(answer) as u32
 }

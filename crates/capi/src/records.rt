@@ -1,12 +1,10 @@
-// Where the parts of a record and of a chip stand in the bytes that a C program keeps; what Open puts there, and a call that changes the marks.
-ghost use Rattle.std.specs.Prelude.{◌≡◌, cond, ◌∷◌, ◌+◌, ◌<◌, ◌≤◌, length, get_or, take, drop, set};
-ghost use Rattle.map.specs.Refusals.{accepted};
-ghost use Rattle.host.specs.Record.{opened, free, chip_reset};
+// Where the parts of a record and of a chip stand in the bytes that a C program keeps; what Open, Power lost and Reset put there.
+ghost use Rattle.std.specs.Prelude.{◌≡◌, ◌∷◌, ◌<◌, ◌≤◌, length, drop, set};
+ghost use Rattle.host.specs.Record.{record_behind, opened, free, chip_reset};
 ghost use Rattle.chip.specs.Chip.{new_chip};
-ghost use Rattle.capi.specs.Capi.{header_in, marks_at, put_image, record_in, record_bytes, record_size, chip_bytes, chip_size};
+ghost use Rattle.capi.specs.Capi.{header_in, marks_at, record_in, record_bytes, record_size, chip_bytes, chip_size};
 
-use host::Header;
-use map::Answer;
+use host::{Header, RecordRef};
 
 // Where the marks, the settings and the chip image of a record begin, and where it ends.
 pub(crate) const MARKS: usize = 3;
@@ -22,14 +20,8 @@ pub(crate) const REGISTERS: usize = 3;
 
 pub(crate) const CHIP_SIZE: usize = REGISTERS + 908;
 
-fn marks(bytes: &[u8]) -> u8
-    requires { 4 ≤ length bytes.now }
-    ensures { result ≡ get_or bytes.now marks_at 0 }
-{
-    bytes[MARKS] // behind the front
-}
-
-pub(crate) fn header(bytes: &[u8]) -> Header
+#[tactic(auto, unfolding(crate::specs::Capi::header_in))]
+fn header(bytes: &[u8]) -> Header
     requires { 4 ≤ length bytes.now }
     ensures { result ≡ header_in bytes.now }
 {
@@ -37,32 +29,19 @@ pub(crate) fn header(bytes: &[u8]) -> Header
         member: bytes[0],
         bus: bytes[1],
         pins: bytes[2],
-        marks: marks(bytes),
+        marks: bytes[MARKS],
     }
 }
 
-// The 908 bytes of the chip image that begins at `at`.
-pub(crate) fn image(bytes: &[u8], at: usize) -> [u8; 908]
-    requires { at + 908 ≤ length bytes.now }
-    ensures { result ≡ take 908 (drop at bytes.now) }
+// The record that the bytes hold.
+pub(crate) fn record(bytes: &[u8]) -> RecordRef<'_>
+    requires { length bytes.now ≡ record_size }
+    ensures { record_behind result ≡ record_in bytes.now }
 {
-    let mut image = [0u8; 908];
-    let mut i: usize = 0;
-    while i < 908 {
-        image[i] = bytes[at + i];
-        i += 1;
-    }
-    image
-}
-
-pub(crate) fn put_image(bytes: &mut [u8], at: usize, image: &[u8; 908])
-    requires { (at + 908 ≤ length bytes.old) × (length image.now ≡ 908) }
-    ensures { bytes.new ≡ put_image bytes.old at image.now }
-{
-    let mut i: usize = 0;
-    while i < 908 {
-        bytes[at + i] = image[i];
-        i += 1;
+    RecordRef {
+        header: header(bytes),
+        settings: &bytes[SETTINGS..IMAGE],
+        image: &bytes[IMAGE..RECORD_SIZE],
     }
 }
 
@@ -74,24 +53,14 @@ pub(crate) fn put_marks(bytes: &mut [u8], marks: u8)
     bytes[MARKS] = marks;
 }
 
-// The marks that a call with this answer leaves.
-pub(crate) fn mark(answer: Answer, bytes: &mut [u8], marks: u8)
-    requires { 4 ≤ length bytes.old }
-    ensures { bytes.new ≡ cond (accepted answer) (set bytes.old marks_at marks) bytes.old }
+// What a power loss and a reset leave of a record: the member's reset values for the chip image, and no lock.
+pub(crate) fn put_reset(bytes: &mut [u8])
+    requires { length bytes.old ≡ record_size }
+    ensures { bytes.new ≡ record_bytes (chip_reset (record_in bytes.old)) }
 {
-    match answer {
-        Answer::Accepted => put_marks(bytes, marks),
-        Answer::Refused(_) => {}
-    }
-}
-
-// What a power loss leaves of a record: the member's reset values for the chip image, and no lock.
-pub(crate) fn put_lost(answer: Answer, header: Header, bytes: &mut [u8])
-    requires { (length bytes.old ≡ record_size) × (header ≡ header_in bytes.old) }
-    ensures { bytes.new ≡ cond (accepted answer) (record_bytes (chip_reset (record_in bytes.old))) bytes.old }
-{
-    host::put_lost(answer, header, &mut bytes[IMAGE..RECORD_SIZE]);
-    mark(answer, bytes, host::FREE);
+    let header = header(bytes);
+    images::put_reset(header.member as usize, &mut bytes[IMAGE..RECORD_SIZE]);
+    put_marks(bytes, host::FREE);
 }
 
 // The bytes that a record and a chip begin with.
@@ -99,9 +68,7 @@ fn put_front(bytes: &mut [u8], member: u8, bus: u8, pins: u8)
     requires { 3 ≤ length bytes.old }
     ensures { bytes.new ≡ member ∷ bus ∷ pins ∷ drop 3 bytes.old }
 {
-    bytes[0] = member;
-    bytes[1] = bus;
-    bytes[2] = pins;
+    bytes[..3].copy_from_slice(&[member, bus, pins]);
 }
 
 // The header of a record that was opened: the front, and no lock.

@@ -5,10 +5,10 @@ use Rattle.faults.specs.Faults.{answer_numbers}
 use Rattle.capi.proofs.InPlace.{bool_number}
 use Rattle.capi.proofs.agree.Goals as goal
 
-pub returns-in-Read : goal.returns-in-Read
+pub returns-in-Ok : goal.returns-in-Ok
 unfolding answer_numbers
-returns-in-Read c = rw c.in-Read.is (record { value = refl; opens_after = bool_number c.in-Read.opens_agree; shorts_after = bool_number c.in-Read.shorts_agree })
+returns-in-Ok c = rw c.in-Ok.is (record { value = refl; opens_after = bool_number c.in-Ok.agrees.opens; shorts_after = bool_number c.in-Ok.agrees.shorts })
 
-pub returns-in-Refused : goal.returns-in-Refused
+pub returns-in-Err : goal.returns-in-Err
 unfolding answer_numbers
-returns-in-Refused c = rw c.in-Refused.is (record { value = c.refusal_number.ensures; opens_after = refl; shorts_after = refl })
+returns-in-Err c = rw c.in-Err.is (record { value = c.refusal_number.ensures; opens_after = refl; shorts_after = refl })

@@ -17,4 +17,4 @@ count-requires c = command_within _ _ _ _ _ (omega arith) _ c.clear_parts-answer
 
 pub returns : goal.returns
 returns c =
-    rw (answer_is clearing c.args.bytes.now c.if-bytes-ne-RECORD_SIZE.false _ c.header-header.ensures c.args.buffer.now _ c.clear_parts-answer.ensures.value) (record { value = c.count.ensures.value; buffer_after = buffer_is clearing c.args.bytes.now c.if-bytes-ne-RECORD_SIZE.false _ c.header-header.ensures c.args.buffer.now _ c.clear_parts-answer.ensures.value _ c.clear_parts-answer.ensures.buffer_after; n_after = c.count.ensures.n_after; t_after = c.count.ensures.t_after })
+    rw (answer_is clearing c.args.bytes.now c.if-bytes-ne-RECORD_SIZE.false _ c.record.ensures c.args.buffer.now _ c.clear_parts-answer.ensures.value) (record { value = c.count.ensures.value; buffer_after = buffer_is clearing c.args.bytes.now c.if-bytes-ne-RECORD_SIZE.false _ c.record.ensures c.args.buffer.now _ c.clear_parts-answer.ensures.value _ c.clear_parts-answer.ensures.buffer_after; n_after = c.count.ensures.n_after; t_after = c.count.ensures.t_after })

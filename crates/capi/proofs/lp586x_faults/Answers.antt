@@ -17,5 +17,5 @@ shape_of-res c = c.faults_parts-answer.auto.res
 
 pub returns : goal.returns
 returns c =
-    let done = faults_done c.args.bytes.now c.if-bytes-ne-RECORD_SIZE.false _ c.header-header.ensures c.args.given.now c.args.res.now _ _ (c.faults_parts-answer.ensures.value, c.faults_parts-answer.ensures.result_after) in
+    let done = faults_done c.args.bytes.now c.if-bytes-ne-RECORD_SIZE.false _ c.record.ensures c.args.given.now c.args.res.now _ _ c.faults_parts-answer.ensures.value c.faults_parts-answer.ensures.result_after in
     rw done.0 (record { value = c.agree.ensures.value; result_after = done.1; opens_after = c.agree.ensures.opens_after; shorts_after = c.agree.ensures.shorts_after })

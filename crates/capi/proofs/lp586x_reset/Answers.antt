@@ -1,13 +1,13 @@
 -- `capi::lp586x_reset` meets its contract.
 -- Assumes nothing.
-use mathlib.Core.Path.{refl, ◌∙◌}
+use mathlib.Core.Path.{refl, sym, ◌∙◌}
 use native.Mathlib.Omega.{arith}
 use Rattle.capi.specs.CapiLaws.{record_unsized}
-use Rattle.capi.specs.Capi.{image_at, list_answer, list_bytes, buffer_after, value_after}
+use Rattle.capi.specs.Capi.{list_answer, list_bytes, buffer_after, value_after}
 use Rattle.update.specs.Update.{resetting}
-use Rattle.capi.proofs.Listed.{command_within, answer_is, buffer_is, reset_back}
-use borrow.Rule.Slice.PartMut.{same_len_mid}
+use Rattle.capi.proofs.Listed.{command_within, answer_is, buffer_is, stored_host, kept_bytes}
 use Rattle.capi.proofs.lp586x_reset.Goals as goal
+use Rattle.capi.proofs.lp586x_reset.Goals.{then-is_ok, else-is_ok}
 
 pub returns-then-bytes-ne-RECORD_SIZE : goal.returns-then-bytes-ne-RECORD_SIZE
 unfolding list_answer list_bytes buffer_after value_after
@@ -16,12 +16,19 @@ returns-then-bytes-ne-RECORD_SIZE c = rw (record_unsized c.args.bytes.now c.if-b
 pub count-requires : goal.count-requires
 count-requires c = command_within _ _ _ _ _ (omega arith) _ c.reset_parts-answer.ensures.value
 
-pub shape_of-bytes : goal.shape_of-bytes
-shape_of-bytes c = c.release.auto.bytes ∙ same_len_mid image_at 908 c.args.bytes.now c.keep_reset.new.image c.keep_reset.auto.image
-
-pub shape_of-buffer : goal.shape_of-buffer
-shape_of-buffer c = c.reset_parts-answer.auto.buffer
-
 pub returns : goal.returns
 returns c =
-    rw (answer_is resetting c.args.bytes.now c.if-bytes-ne-RECORD_SIZE.false _ c.header-header.ensures c.args.buffer.now _ c.reset_parts-answer.ensures.value) (record { value = c.count.ensures.value; bytes_after = reset_back c.args.bytes.now c.if-bytes-ne-RECORD_SIZE.false _ c.header-header.ensures c.args.buffer.now _ _ _ c.reset_parts-answer.ensures.value c.keep_reset.ensures c.release.ensures; buffer_after = buffer_is resetting c.args.bytes.now c.if-bytes-ne-RECORD_SIZE.false _ c.header-header.ensures c.args.buffer.now _ c.reset_parts-answer.ensures.value _ c.reset_parts-answer.ensures.buffer_after; n_after = c.count.ensures.n_after; t_after = c.count.ensures.t_after })
+    let size = c.if-bytes-ne-RECORD_SIZE.false in
+    let read = c.record.ensures in
+    let ea = c.reset_parts-answer.ensures.value in
+    rw (answer_is resetting c.args.bytes.now size _ read c.args.buffer.now _ ea) (record {
+      value = c.count.ensures.value;
+      bytes_after =
+          elim c.if-is_ok.branch [
+            then-is_ok w ↦ w.bytes-is ∙ stored_host resetting c.args.bytes.now size _ read c.args.buffer.now _ ea _ (sym c.is_ok.ensures.value ∙ w.if-is_ok.true) w.put_reset.ensures
+            | else-is_ok w ↦ w.bytes-is ∙ kept_bytes resetting c.args.bytes.now size _ read c.args.buffer.now _ ea (sym c.is_ok.ensures.value ∙ w.if-is_ok.false)
+          ];
+      buffer_after = buffer_is resetting c.args.bytes.now size _ read c.args.buffer.now _ ea _ c.reset_parts-answer.ensures.buffer_after;
+      n_after = c.count.ensures.n_after;
+      t_after = c.count.ensures.t_after;
+    })

@@ -3,7 +3,8 @@
 use mathlib.Core.Path.{refl}
 use Rattle.capi.specs.Capi.{image_at, list_answer, list_bytes, buffer_after, value_after}
 use Rattle.capi.specs.CapiLaws.{record_unsized}
-use Rattle.capi.proofs.Listed.{update_within, sent_so, stored_fits, update_called}
+use Rattle.update.specs.Update.{updating}
+use Rattle.capi.proofs.Listed.{update_within, answer_is, buffer_is, sent_so, update_back, stored_by, stored_fits}
 use borrow.Rule.Slice.PartMut.{same_len_mid}
 use Rattle.capi.proofs.lp586x_update.Goals as goal
 
@@ -13,9 +14,10 @@ returns-then-bytes-ne-RECORD_SIZE c = rw (record_unsized c.args.bytes.now c.if-b
 
 pub put_update-requires : goal.put_update-requires
 put_update-requires c =
-    let told = sent_so c.args.bytes.now c.if-bytes-ne-RECORD_SIZE.false _ c.header-header.ensures c.args.buffer.now _ _ c.update_parts-answer.ensures.value c.update_parts-answer.ensures.buffer_after in (
+    let told = sent_so c.args.bytes.now c.if-bytes-ne-RECORD_SIZE.false _ c.record-r.ensures _ _ _ c.update_parts-answer.ensures.value c.update_parts-answer.ensures.buffer_after in (
       update_within _ _ _ c.update_parts-answer.ensures.value,
-      stored_fits c.args.bytes.now c.if-bytes-ne-RECORD_SIZE.false _ c.header-header.ensures c.args.buffer.now _ _ c.update_parts-answer.ensures.value c.update_parts-answer.ensures.buffer_after _ (c.store_sent-sent.ensures.stored _ _ told),
+      stored_fits c.args.bytes.now c.if-bytes-ne-RECORD_SIZE.false _ c.record-r.ensures _ _ _ c.update_parts-answer.ensures.value c.update_parts-answer.ensures.buffer_after _
+          (c.store_sent-sent.ensures.stored _ _ told),
     )
 
 pub shape_of-bytes : goal.shape_of-bytes
@@ -26,6 +28,17 @@ shape_of-buffer c = c.update_parts-answer.auto.buffer
 
 pub returns : goal.returns
 returns c =
-    let told = sent_so c.args.bytes.now c.if-bytes-ne-RECORD_SIZE.false _ c.header-header.ensures c.args.buffer.now _ _ c.update_parts-answer.ensures.value c.update_parts-answer.ensures.buffer_after in
-    let p = update_called c.args.bytes.now c.if-bytes-ne-RECORD_SIZE.false _ c.header-header.ensures c.args.buffer.now _ _ c.update_parts-answer.ensures.value c.update_parts-answer.ensures.buffer_after _ (c.store_sent-sent.ensures.image_after _ _ told) _ (c.store_sent-sent.ensures.stored _ _ told)
-    c.args.n.now c.args.t.now c.args.stored.now c.args.needed.now _ _ _ _ _ (c.put_update.ensures.value, (c.put_update.ensures.n_after, (c.put_update.ensures.t_after, (c.put_update.ensures.stored_after, c.put_update.ensures.needed_after)))) in record { value = p.0; bytes_after = p.1.0; buffer_after = p.1.1.0; n_after = p.1.1.1.0; t_after = p.1.1.1.1.0; stored_after = p.1.1.1.1.1.0; needed_after = p.1.1.1.1.1.1 }
+    let size = c.if-bytes-ne-RECORD_SIZE.false in
+    let read = c.record-r.ensures in
+    let ea = c.update_parts-answer.ensures.value in
+    let eb = c.update_parts-answer.ensures.buffer_after in
+    let told = sent_so c.args.bytes.now size _ read _ _ _ ea eb in
+    rw (answer_is updating c.args.bytes.now size _ read _ _ ea) (record {
+      value = c.put_update.ensures.value;
+      bytes_after = update_back c.args.bytes.now size _ read _ _ _ ea eb _ (c.store_sent-sent.ensures.image_after _ _ told);
+      buffer_after = buffer_is updating c.args.bytes.now size _ read _ _ ea _ eb;
+      n_after = c.put_update.ensures.n_after;
+      t_after = c.put_update.ensures.t_after;
+      stored_after = stored_by c.args.bytes.now size _ read _ _ _ ea eb _ (c.store_sent-sent.ensures.stored _ _ told) _ _ c.put_update.ensures.stored_after;
+      needed_after = c.put_update.ensures.needed_after;
+    })
