@@ -96,8 +96,8 @@ fn same_counts(rt: &impl Print, res: &[u8; 200], counts: [u8; 6]) -> bool {
 // Every byte from a place on is as it was before the call.
 fn same_behind(rt: &impl Print, res: &[u8; 200], from: usize) -> bool {
     let mut all = true;
-    for at in from..200 {
-        all = same_at(rt, b"byte ", at, res[at], BEFORE) && all;
+    for (at, byte) in res.iter().enumerate().skip(from) {
+        all = same_at(rt, b"byte ", at, *byte, BEFORE) && all;
     }
     all
 }

@@ -14,7 +14,8 @@ fn no_sink(columns: u32, sink: usize) -> u8
     if has_column(columns, sink) { 0 } else { 1 }
 }
 
-// The bits of absent sinks in byte q of the five group bytes of a line.
+// The bits of absent sinks in byte q of the five group bytes of a line. (The terms are written out: of `(0..4).map(..).sum()` the check
+// did not prove that the sum fits.)
 pub fn group_mask(columns: u32, q: usize) -> u8
     ensures { result ≡ group_mask columns q }
 {
@@ -28,7 +29,7 @@ pub fn group_mask(columns: u32, q: usize) -> u8
         + no_sink(columns, s + 3) * 192
 }
 
-// The bits of absent sinks in byte q of the three switch bytes of a line.
+// The bits of absent sinks in byte q of the three switch bytes of a line. (Written out as above.)
 pub fn switch_mask(columns: u32, q: usize) -> u8
     ensures { result ≡ switch_mask columns q }
 {
