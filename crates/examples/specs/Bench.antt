@@ -1,10 +1,9 @@
 -- The table of document 01's starred bench examples and of the fixed strings, Clear's as of document 02, computed from the definitions:
 -- `starred`.
 -- Assumes nothing.
-use Rattle.std.specs.Prelude.{◌≡◌, refl, List, [], ◌∷◌, map, ℕ, ◌≤◌, length, get_or, set, replicate}
+use Rattle.std.specs.Prelude.{◌≡◌, refl, Some, List, [], ◌∷◌, map, ℕ, ◌≤◌, length, get_or, set, replicate}
 use Rattle.std.proofs.Common.{sym, arith}
 use Rattle.map.specs.declared.dots.Field.TheVariants.{Current}
-use Rattle.map.specs.declared.dots.Place.TheVariants.{At}
 use Rattle.map.specs.Refusals.{answer_number, open_answer, opens}
 use Rattle.map.specs.Map.{lines_of, columns_of, has_column, dot_in, is_dot, number_in, dot_number, kind_of, address_of, shift_of, place_as, place_of, line_number, data_mode, is_wide, first_masks, first_mask, no_sink, group_mask, switch_mask, group_reserved, switch_reserved, current_reserved, pwm_reserved, reserved_as, reserved_of, writable_of, first_reset, switch_bytes_of, switch_reset, current_reset, reset_as, reset_of}
 use Rattle.map.specs.Lists.{all_from, table_from, table}
@@ -94,7 +93,7 @@ pub record Starred : Type 0 where
   -- "Line 8, sink 2: 8 bits at 292h."
   pub byte_at_292 : get_or (lit 0x58 8 2 0x34) 0x292 0 ≡ 0x34
   -- "LP5867 line 2, sink 8: current at 12Ch."
-  pub current_at_12_c : place_of Current 3 2 8 ≡ At 0x12C 0
+  pub current_at_12_c : place_of Current 3 2 8 ≡ Some (record { address = 0x12C; shift = 0 })
   -- "Sink 2: refusal 6."
   pub sink_2_refused : answer_number (lamp_of (open_of 3 0 0).host 2 2 0).answer ≡ 6
   -- the fixed command strings

@@ -22,6 +22,7 @@ pub fn decode(line: &[u8], word: usize, buffer: &mut [u8]) -> usize
 }
 
 // What is lent to a call, at the front of the buffer. It answers how many bytes.
+#[tactic(auto, unfolding(crate::specs::Run::lent_of, script::specs::LineLaws::LentFits))]
 fn lend(line: &[u8], lent: Lent, buffer: &mut [u8]) -> usize
     requires { LentFits line.now lent × (length buffer.old ≡ 8192) }
     ensures { (result ≤ 8192) × (take result buffer.new ≡ lent_of lent line.now buffer.old) }
@@ -80,6 +81,7 @@ pub(crate) fn clear(session: Session, room: usize, buffer: &mut [u8]) -> Outcome
     stepped(session, after, Lent::Room(room), room)
 }
 
+#[tactic(auto, unfolding(crate::specs::Run::with_world, crate::specs::Run::feed_effect))]
 pub(crate) fn feed(mut session: Session, line: &[u8], word: usize, buffer: &mut [u8]) -> Outcome
     requires { (length line.now ≤ 8192) × (length buffer.old ≡ 8192) }
     ensures { Does result buffer.new (feed_effect session (bytes_of (word_at line.now word))) }

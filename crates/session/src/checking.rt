@@ -18,10 +18,8 @@ fn chip_differs(member: usize, address: usize, held: u8, asked: u8) -> bool
 fn difference(member: usize, registers: &[u8; 908], ledger: &[u8; 908]) -> Reply
     ensures { result ≡ compare_from member registers.now ledger.now 0 908 }
 {
-    let found = registers.iter().zip(ledger).enumerate().find(|(
-        address,
-        (held, asked),
-    )| chip_differs(member, *address, **held, **asked));
+    let mut pairs = registers.iter().zip(ledger).enumerate();
+    let found = pairs.find(|(a, (held, asked))| chip_differs(member, *a, **held, **asked));
     match found {
         Some((address, _)) => Reply::Differs(address),
         None => Reply::Same,
@@ -42,6 +40,7 @@ fn compared(session: Session) -> Reply
     }
 }
 
+#[tactic(auto, using(crate::specs::CheckLaws::compared_plain))]
 pub(crate) fn check(session: Session) -> Outcome
     ensures { (buffer : List ℕ) → Does result buffer (alone (compared session) session) }
 {

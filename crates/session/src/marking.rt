@@ -18,6 +18,7 @@ fn marks_reply(header: Header) -> Reply
     }
 }
 
+#[tactic(auto, using(crate::specs::LengthLaws::marks_plain))]
 pub(crate) fn marks(session: Session) -> Outcome
     ensures { (buffer : List ℕ) → Does result buffer (alone (marks_reply session.world.host.header) session) }
 {
