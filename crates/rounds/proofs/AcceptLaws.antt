@@ -10,19 +10,15 @@ use Rattle.plan.specs.Portion.{portion}
 use Rattle.plan.proofs.PortionLaws.{portion_begins, begins_bytes}
 use Rattle.host.specs.declared.Record.{Record}
 use Rattle.host.specs.Record.{sound_of}
-use Rattle.update.specs.declared.ListAnswer.TheVariants.{Listed}
-use Rattle.update.specs.Update.{writes_of}
+use Rattle.update.specs.Update.{listed, refused, writes_of}
 use Rattle.update.specs.BoundLaws.{bus_most}
 use Rattle.rounds.specs.Round.{bytes_all, share_of, left_over, deal, count_all, round_size, least_limit, most_limit, every_place, waiting, round_parts, present_sound, present_placed, round_answer, waitings}
 use Rattle.rounds.proofs.ListLaws.{few_parts}
-use Rattle.rounds.proofs.DealLaws.{parts_ready}
+use Rattle.rounds.proofs.DealLaws.{every_true, parts_ready}
 
 -- the length of a buffer that always suffices
 abbrev pub round_most : ℕ
 round_most = 4684
-
-every_true : (f : ℕ → Bool) → ((k : ℕ) → k < 4 → f k ≡ true) → every_place f ≡ true
-every_true f e = rw (e 0 (omega arith), e 1 (omega arith), e 2 (omega arith), e 3 (omega arith)) refl
 
 if_present : (x y : Bool) → (x ≡ true → y ≡ true) → (not x || y) ≡ true
 if_present true y e = e refl
@@ -66,7 +62,7 @@ module _ (present : ℕ → Bool) (records : ℕ → Record) (sound : (k : ℕ) 
 
     -- so that a buffer of 4,684 bytes is never refused
     pub round_accepts : least_limit ≤ limit → limit ≤ most_limit → (size : ℕ) → round_most ≤ size →
-        round_answer present records limit size ≡ Listed (count_all (round_parts present records limit)) (bytes_all (round_parts present records limit))
+        round_answer present records limit size ≡ listed (count_all (round_parts present records limit)) (bytes_all (round_parts present records limit))
     unfolding round_answer
     round_accepts lo hi size room =
         rw (

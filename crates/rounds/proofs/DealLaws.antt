@@ -1,6 +1,6 @@
 -- Laws of a round: how B is dealt out, what an accepted round says of the present records, and that its list can be sent.
 -- Assumes nothing.
-use Rattle.std.specs.Prelude.{◌≡◌, Bool, true, false, cond, not, ◌&&◌, ◌||◌, List, [], ◌∷◌, map, ℕ, zero, suc, ◌+◌, ◌-◌, ◌≤◌, ◌<◌, eqb, length}
+use Rattle.std.specs.Prelude.{◌≡◌, Bool, true, false, cond, not, ◌&&◌, ◌||◌, List, [], ◌∷◌, map, ℕ, zero, suc, ◌+◌, ◌-◌, ◌≤◌, ◌<◌, eqb, length, get_or, sum}
 use Rattle.std.proofs.Math.Path.{refl}
 use Rattle.std.proofs.Common.{sym, ap, ◌∙◌, subst, arith, eqb-true, leb-true}
 use Rattle.std.proofs.lemmas.Bool.{false≢true}
@@ -13,9 +13,7 @@ use Rattle.plan.specs.Portion.{portion, Begins}
 use Rattle.plan.proofs.PortionLaws.{portion_empty, portion_bytes, portion_begins, portion_more, begins_good}
 use Rattle.host.specs.declared.Record.{Record}
 use Rattle.host.specs.Record.{sound_of, may_write}
-use Rattle.update.specs.declared.ListAnswer.{ListAnswer}
-use Rattle.update.specs.declared.ListAnswer.TheVariants.{Listed, Refused}
-use Rattle.update.specs.Update.{is_listed, writes_of}
+use Rattle.update.specs.Update.{ListAnswer, listed, refused, is_listed, writes_of}
 use Rattle.update.specs.BoundLaws.{good_data, good_named, names_writable}
 use Rattle.rounds.specs.Round.{bytes_all, share_of, left_over, deal, room_at, count_all, round_size, part_at, least_limit, most_limit, every_place, waiting, waitings, round_room, round_parts, present_sound, present_placed, round_answer, at_place}
 use Rattle.rounds.proofs.ListLaws.{AllReady}
@@ -79,11 +77,8 @@ none_portionable room = subst (λ (xs : List Burst). AllData xs × AllNamed xs) 
 -- ---- Four places
 
 -- behind the third place stands the last
-pub at_last : {A : Type 0} (a b c d : A) (k : ℕ) → 3 ≤ k → at_place a b c d k ≡ d
-at_last a b c d zero h = absurd (omega arith)
-at_last a b c d (suc zero) h = absurd (omega arith)
-at_last a b c d (suc (suc zero)) h = absurd (omega arith)
-at_last a b c d (suc (suc (suc k))) h = refl
+pub at_last : {A : Type 0} (none : A) (xs : List A) (k : ℕ) → 3 ≤ k → at_place none xs k ≡ get_or xs 3 none
+at_last none xs k h = ap (λ (j : ℕ). get_or xs j none) (omega arith)
 
 pub every_at : (f : ℕ → Bool) → every_place f ≡ true → (k : ℕ) → k < 4 → f k ≡ true
 every_at f e zero h = and_left (f 0) (f 1 && (f 2 && f 3)) e
@@ -93,6 +88,16 @@ every_at f e (suc (suc zero)) h =
 every_at f e (suc (suc (suc zero))) h =
     and_right (f 2) (f 3) (and_right (f 1) (f 2 && f 3) (and_right (f 0) (f 1 && (f 2 && f 3)) e))
 every_at f e (suc (suc (suc (suc k)))) h = absurd (omega arith)
+
+pub every_true : (f : ℕ → Bool) → ((k : ℕ) → k < 4 → f k ≡ true) → every_place f ≡ true
+every_true f e = rw (e 0 (omega arith), e 1 (omega arith), e 2 (omega arith), e 3 (omega arith)) refl
+
+pub every_false : (f : ℕ → Bool) (k : ℕ) → k < 4 → f k ≡ false → every_place f ≡ false
+every_false f k h e = go (every_place f) refl
+  where
+    go : (b : Bool) → every_place f ≡ b → b ≡ false
+    go true t = absurd (false≢true (sym e ∙ every_at f t k h))
+    go false t = refl
 
 implied : (a b : Bool) → (not a || b) ≡ true → a ≡ true → b ≡ true
 implied true b e t = e
@@ -146,7 +151,7 @@ module _ (present : ℕ → Bool) (records : ℕ → Record) where
     pub bus : (k : ℕ) → k < 4 → present k ≡ true → (records k).header.bus ≡ 0
     pub pins : (k : ℕ) → k < 4 → present k ≡ true → (records k).header.pins ≡ k
     pub room : round_size (round_parts present records limit) ≤ size
-    pub answer : round_answer present records limit size ≡ Listed (count_all (round_parts present records limit)) (bytes_all (round_parts present records limit))
+    pub answer : round_answer present records limit size ≡ listed (count_all (round_parts present records limit)) (bytes_all (round_parts present records limit))
 
   pub round_takes : (limit size : ℕ) → is_listed (round_answer present records limit size) ≡ true → Takes limit size
   unfolding round_answer
@@ -155,10 +160,10 @@ module _ (present : ℕ → Bool) (records : ℕ → Record) where
       (every_place (present_placed present records)) refl (leb (round_size (round_parts present records limit)) size) refl e refl
     where
       list : ListAnswer
-      list = Listed (count_all (round_parts present records limit)) (bytes_all (round_parts present records limit))
+      list = listed (count_all (round_parts present records limit)) (bytes_all (round_parts present records limit))
 
       by : Bool → Bool → Bool → Bool → ListAnswer
-      by a b c d = cond a (cond b (cond c (cond d list (Refused BufferShort)) (Refused NotItsPlace)) (Refused RoundLimit)) (Refused Unsound)
+      by a b c d = cond a (cond b (cond c (cond d list (refused BufferShort)) (refused NotItsPlace)) (refused RoundLimit)) (refused Unsound)
 
       go : (a : Bool) → every_place (present_sound present records) ≡ a → (b : Bool) → (leb least_limit limit && leb limit most_limit) ≡ b →
           (c : Bool) → every_place (present_placed present records) ≡ c → (d : Bool) → leb (round_size (round_parts present records limit)) size ≡ d →

@@ -1,29 +1,22 @@
 -- The parts of four places make up one list.
 -- Assumes nothing.
-use mathlib.Core.Path.{◌≡◌, refl, sym, ap, ap₂, ◌∙◌}
-use mathlib.Core.Bool.{Bool, true, false}
-use mathlib.Core.List.{List, [], ◌∷◌, ◌++◌, map, map-append, append_assoc, append-nil}
-use Prim.Native.Nat.{ℕ, ◌+◌, ◌*◌, ◌≤◌, ◌<◌}
-use native.Mathlib.Omega.{arith}
-use lib.ListN.{length, length-append, length-map}
-use lib.Seq.{sets}
-use Rattle.burst.specs.Burst.{Burst, size_bytes, sizes_bytes, sum, joined, transaction_of, list_of, bus_bytes}
+use Rattle.std.proofs.Common.{◌≡◌, refl, sym, ap, ap₂, ◌∙◌, subst, Bool, true, false, List, [], ◌∷◌, ◌++◌, ℕ, zero, suc, ◌+◌, ◌*◌, ◌≤◌, ◌<◌, ◌≢◌, map, length, take, set, get_or, sum, arith, length-append, get_or-set_other, get_or-set_same, below_more}
+use Rattle.std.proofs.lemmas.List.{length-map, length-set, length-take-le, map-append, append_assoc, append-nil, take_all}
+use Rattle.std.proofs.lemmas.List.Edits.{sets}
+use Rattle.burst.specs.Burst.{Burst, size_bytes, sizes_bytes, joined, transaction_of, list_of, bus_bytes}
+use Rattle.burst.specs.Burst as burst
 use Rattle.plan.specs.Portion.{portion}
 use Rattle.plan.proofs.PortionLaws.{portion_again}
 use Rattle.plan.specs.Update.{store_all}
-use Rattle.host.specs.declared.Header.{Header}
 use Rattle.host.specs.declared.Record.{Record}
-use Rattle.host.specs.Record.{record_of}
-use Rattle.writes.specs.declared.scan.Matrix.{Matrix}
-use Rattle.writes.specs.Marks.{matrix_of}
 use Rattle.writes.specs.WrittenLaws.{sets_append, sets_comm, sizes_append, joined_append}
 use Rattle.update.specs.Update.{writes_of}
 use Rattle.rounds.specs.declared.dealing.Dealt.{Dealt}
 use Rattle.rounds.specs.Round.{bytes_all, count_all, pinned, round_list, part_at, waiting, round_parts, round_room}
 use Rattle.rounds.proofs.ListLaws.{pinned_count, pinned_sum}
 use Rattle.rounds.proofs.DealLaws.{part_is, four_parts}
-use Rattle.rounds.specs.Dealing.{waiting_of, Waits, AllWait, AllPlaced, DealtAre, put_part, part_transactions, RoundPut}
-use Rattle.rounds.proofs.Shares.{absent_part, present_part}
+use Rattle.rounds.specs.Dealing.{waiting_of, AllPlaced, DealtAre, put_part, part_transactions, image_at, RoundPut}
+use Rattle.rounds.proofs.Shares.{absent_part, bytes_append, bytes_sum, count_append}
 
 -- ---- pieces
 
@@ -47,7 +40,7 @@ put_behind buffer index at next behind xs ys en eb free =
     (sym (sizes_append (map length xs) (map length ys)) ∙ ap sizes_bytes (sym (map-append length xs ys))) (sym (joined_append xs ys))
 
 -- n and t before all of them
-put_all : (buffer : List ℕ) (n t : ℕ) (xs : List (List ℕ)) → n ≡ length xs → t ≡ sum (map length xs) →
+put_all : (buffer : List ℕ) (n t : ℕ) (xs : List (List ℕ)) → n ≡ length xs → t ≡ burst.sum (map length xs) →
     put_part (sets buffer 0 (size_bytes n ++ size_bytes t)) 0 (4 + 2 * n) xs ≡ sets buffer 0 (list_of xs)
 unfolding list_of
 put_all buffer n t xs en et =
@@ -67,61 +60,55 @@ unfolding transaction_of
 part_bytes q [] = refl
 part_bytes q (b ∷ bs) = omega (arith, length-append b.bytes (joined (map (transaction_of 0 q) bs)), part_bytes q bs)
 
-four : (parts : List (List Burst)) → length parts ≡ 4 → parts ≡ part_at parts 0 ∷ part_at parts 1 ∷ part_at parts 2 ∷ part_at parts 3 ∷ []
-four [] e = absurd (omega arith)
-four (a ∷ []) e = absurd (omega arith)
-four (a ∷ b ∷ []) e = absurd (omega arith)
-four (a ∷ b ∷ c ∷ []) e = absurd (omega arith)
-four (a ∷ b ∷ c ∷ d ∷ []) e = refl
-four (a ∷ b ∷ c ∷ d ∷ x ∷ xs) e = absurd (omega arith)
+-- the places before one, and its part
+part_more : (parts : List (List Burst)) (k : ℕ) → k < length parts → take (suc k) parts ≡ take k parts ++ (part_at parts k ∷ [])
+part_more [] k h = absurd (omega arith)
+part_more (bs ∷ parts) zero h = refl
+part_more (bs ∷ parts) (suc k) h = ap (λ (ps : List (List Burst)). bs ∷ ps) (part_more parts k (omega arith))
+
+part_within : (parts : List (List Burst)) (k : ℕ) → k < length parts →
+    (count_all (take k parts) + length (part_at parts k) ≤ count_all parts) × (bytes_all (take k parts) + bus_bytes (part_at parts k) ≤ bytes_all parts)
+part_within [] k h = absurd (omega arith)
+part_within (bs ∷ parts) zero h = (omega arith, omega arith)
+part_within (bs ∷ parts) (suc k) h = let t = part_within parts k (omega arith) in (omega (arith, t.0), omega (arith, t.1))
+
+pinned_append : (q : ℕ) (xs ys : List (List Burst)) → pinned q (xs ++ ys) ≡ pinned q xs ++ pinned (q + length xs) ys
+pinned_append q [] ys = ap (λ (k : ℕ). pinned k ys) (omega arith)
+pinned_append q (bs ∷ xs) ys =
+    ap (λ (l : List (List ℕ)). map (transaction_of 0 q) bs ++ l) (pinned_append (suc q) xs ys ∙ ap (λ (k : ℕ). pinned (suc q) xs ++ pinned k ys) (omega arith))
+    ∙ sym (append_assoc (map (transaction_of 0 q) bs) (pinned (suc q) xs) (pinned (q + length (bs ∷ xs)) ys))
+
+joined_bytes : (q : ℕ) (parts : List (List Burst)) → length (joined (pinned q parts)) ≡ bytes_all parts
+joined_bytes q [] = refl
+joined_bytes q (bs ∷ parts) =
+    ap length (joined_append (map (transaction_of 0 q) bs) (pinned (suc q) parts))
+    ∙ length-append (joined (map (transaction_of 0 q) bs)) (joined (pinned (suc q) parts))
+    ∙ ap₂ ◌+◌ (part_bytes q bs) (joined_bytes (suc q) parts)
+
+bytes_at : (parts : List (List Burst)) (k : ℕ) → get_or (map bus_bytes parts) k 0 ≡ bus_bytes (part_at parts k)
+bytes_at [] k = refl
+bytes_at (bs ∷ parts) zero = refl
+bytes_at (bs ∷ parts) (suc k) = bytes_at parts k
 
 -- ---- one place
 
 -- what is put of a place whose part has so many bus bytes: the index of the next transaction is `next`
-abbrev pub Puts : Bool → Record → ℕ → ℕ → ℕ → ℕ → List ℕ → List ℕ → List ℕ → List ℕ → Type 0
-Puts present r index at bytes next buffer after image taken =
-    (next ≡ index + length (portion bytes (waiting_of present r)))
-    × ((after ≡ put_part buffer index at (map (transaction_of r.header.bus r.header.pins) (portion bytes (waiting_of present r))))
-    × (taken ≡ store_all (portion bytes (waiting_of present r)) image))
+pub record Puts (present : Bool) (r : Record) (index at bytes next : ℕ) (buffer after image taken : List ℕ) : Type 0 where
+  pub value : next ≡ index + length (portion bytes (waiting_of present r))
+  pub buffer_after : after ≡ put_part buffer index at (map (transaction_of r.header.bus r.header.pins) (portion bytes (waiting_of present r)))
+  pub image_after : taken ≡ store_all (portion bytes (waiting_of present r)) image
 
-module _ (present : Bool) (h : Header) (settings old : List ℕ) (index at bytes : ℕ) where
-  abbrev r : Record
-  r = record_of h settings old
-
+module _ (present : Bool) (r : Record) (index at bytes : ℕ) where
   pub absent_put : (buffer image : List ℕ) → present ≡ false → Puts present r index at bytes index buffer buffer image image
   absent_put buffer image e =
-      let none = sym (absent_part bytes present r e) in (
-        omega (arith, ap length none),
-        (ap (λ (xs : List Burst). put_part buffer index at (map (transaction_of h.bus h.pins) xs)) none, ap (λ (xs : List Burst). store_all xs image) none),
-      )
-
-  module _ (matrix : Matrix) (e : present ≡ true) (m : matrix ≡ matrix_of h) where
-    is : portion bytes (writes_of (record_of matrix.header settings old)) ≡ portion bytes (waiting_of present r)
-    is = present_part [] present h settings old matrix e m bytes
-
-    pub present_free : 4 + 2 * (index + length (portion bytes (waiting_of present r))) ≤ at →
-        4 + 2 * (index + length (portion bytes (writes_of (record_of matrix.header settings old)))) ≤ at
-    present_free f = omega (arith, f, ap length is)
-
-    pub present_put : (buffer image : List ℕ) (next : ℕ) (after taken : List ℕ) →
-        (next ≡ index + length (portion bytes (writes_of (record_of matrix.header settings old))))
-        × ((after ≡ put_part buffer index at (part_transactions (record_of matrix.header settings old) bytes))
-        × (taken ≡ store_all (portion bytes (writes_of (record_of matrix.header settings old))) image)) → Puts present r index at bytes next buffer after image taken
-    present_put buffer image next after taken f = (
-      omega (arith, f.0, ap length is),
-      (
-        f.1.0
-            ∙ ap (λ (x : Matrix). put_part buffer index at (map (transaction_of x.header.bus x.header.pins) (portion bytes (writes_of (record_of matrix.header settings old))))) m
-            ∙ ap (λ (xs : List Burst). put_part buffer index at (map (transaction_of h.bus h.pins) xs)) is,
-        f.1.1 ∙ ap (λ (xs : List Burst). store_all xs image) is,
-      ),
-    )
+      let none = sym (absent_part bytes present r e) in
+      record {
+        value = omega (arith, ap length none);
+        buffer_after = ap (λ (xs : List Burst). put_part buffer index at (map (transaction_of r.header.bus r.header.pins) xs)) none;
+        image_after = ap (λ (xs : List Burst). store_all xs image) none;
+      }
 
 -- ---- four places
-
--- what is lent of each
-pub waits_at : (kinds : List ℕ) (present : ℕ → Bool) (records : ℕ → Record) → AllWait kinds present records → (k : ℕ) → k < 4 → Waits kinds (present k) (records k)
-waits_at kinds present records a k h = record { kinds_are = a.kinds_are; sound = a.sound k h }
 
 module _ (limit : ℕ) (present : ℕ → Bool) (records : ℕ → Record) where
   abbrev parts : List (List Burst)
@@ -135,7 +122,7 @@ module _ (limit : ℕ) (present : ℕ → Bool) (records : ℕ → Record) where
       ap (λ (j : ℕ). portion j w) (e ∙ ap bus_bytes is) ∙ portion_again (round_room present records limit k) w ∙ sym is
 
   -- its transactions have the pins of its place
-  pub part_pinned : AllPlaced present records → (k bytes : ℕ) → k < 4 → bytes ≡ bus_bytes (part_at parts k) →
+  part_pinned : AllPlaced present records → (k bytes : ℕ) → k < 4 → bytes ≡ bus_bytes (part_at parts k) →
       map (transaction_of (records k).header.bus (records k).header.pins) (portion bytes (waiting present records k)) ≡ map (transaction_of 0 k) (part_at parts k)
   part_pinned p k bytes h e = go (present k) refl
     where
@@ -151,123 +138,109 @@ module _ (limit : ℕ) (present : ℕ → Bool) (records : ℕ → Record) where
           let none = absent_part bytes (present k) (records k) t in
           ap (map (transaction_of (records k).header.bus (records k).header.pins)) none ∙ ap (map (transaction_of 0 k)) (sym none ∙ again)
 
-  parts_four : parts ≡ part_at parts 0 ∷ part_at parts 1 ∷ part_at parts 2 ∷ part_at parts 3 ∷ []
-  parts_four = four parts (four_parts present records limit)
-
-  pub counts_are : count_all parts ≡ length (part_at parts 0) + length (part_at parts 1) + length (part_at parts 2) + length (part_at parts 3)
-  counts_are = omega (arith, ap count_all parts_four)
-
-  pub bytes_are : bytes_all parts ≡ bus_bytes (part_at parts 0) + bus_bytes (part_at parts 1) + bus_bytes (part_at parts 2) + bus_bytes (part_at parts 3)
-  bytes_are = omega (arith, ap bytes_all parts_four)
-
-  abbrev sent : ℕ → List (List ℕ)
-  sent k = map (transaction_of 0 k) (part_at parts k)
-
-  pinned_four : pinned 0 parts ≡ ((sent 0 ++ sent 1) ++ sent 2) ++ sent 3
-  pinned_four =
-      ap (pinned 0) parts_four
-      ∙ ap (λ (l : List (List ℕ)). sent 0 ++ (sent 1 ++ (sent 2 ++ l))) (append-nil (sent 3))
-      ∙ sym (append_assoc (sent 0) (sent 1) (sent 2 ++ sent 3))
-      ∙ sym (append_assoc (sent 0 ++ sent 1) (sent 2) (sent 3))
-
   -- n and t, then part by part
-  module _ (x : Dealt) (d : DealtAre limit present records x) where
+  module _ (x : Dealt) where
     abbrev front : List ℕ → List ℕ
-    front old = sets old 0 (size_bytes x.writes ++ size_bytes (x.first + x.second + x.third + x.fourth))
+    front old = sets old 0 (size_bytes x.writes ++ size_bytes (sum x.bytes))
 
-    abbrev at : ℕ
-    at = 4 + 2 * x.writes
+    abbrev start : ℕ
+    start = 4 + 2 * x.writes
 
-    list_put : (old b1 b2 b3 b4 : List ℕ) (n1 n2 n3 : ℕ) → n1 ≡ 0 + length (part_at parts 0) → n2 ≡ n1 + length (part_at parts 1) →
-        n3 ≡ n2 + length (part_at parts 2) → b1 ≡ put_part (front old) 0 at (sent 0) → b2 ≡ put_part b1 n1 (at + x.first) (sent 1) →
-        b3 ≡ put_part b2 n2 (at + x.first + x.second) (sent 2) → b4 ≡ put_part b3 n3 (at + x.first + x.second + x.third) (sent 3) →
-        b4 ≡ sets old 0 (round_list parts)
-    unfolding round_list
-    list_put old b1 b2 b3 b4 n1 n2 n3 e1 e2 e3 f1 f2 f3 f4 =
-        let count : (k : ℕ) → length (sent k) ≡ length (part_at parts k) = λ k. length-map (part_at parts k) (transaction_of 0 k) in
-        let size : (k : ℕ) → length (joined (sent k)) ≡ bus_bytes (part_at parts k) = λ k. part_bytes k (part_at parts k) in
-        let l2 = length-append (sent 0) (sent 1) in
-        let l3 = length-append (sent 0 ++ sent 1) (sent 2) in
-        let j2 : length (joined (sent 0 ++ sent 1)) ≡ length (joined (sent 0)) + length (joined (sent 1)) =
-        ap length (joined_append (sent 0) (sent 1)) ∙ length-append (joined (sent 0)) (joined (sent 1)) in
-        let j3 : length (joined ((sent 0 ++ sent 1) ++ sent 2)) ≡ length (joined (sent 0 ++ sent 1)) + length (joined (sent 2)) =
-        ap length (joined_append (sent 0 ++ sent 1) (sent 2)) ∙ length-append (joined (sent 0 ++ sent 1)) (joined (sent 2)) in
-        let all = counts_are in
-        let w = d.writes_are in
-        f4
-        ∙ ap (λ (b : List ℕ). put_part b n3 (at + x.first + x.second + x.third) (sent 3))
-        (f3
-        ∙ ap (λ (b : List ℕ). put_part b n2 (at + x.first + x.second) (sent 2))
-        (f2
-        ∙ ap (λ (b : List ℕ). put_part b n1 (at + x.first) (sent 1)) f1
-        ∙ put_behind (front old) 0 at n1 (at + x.first) (sent 0) (sent 1) (omega (arith, count 0)) (omega (arith, size 0, d.first_is)) (omega (arith, count 1)))
-        ∙ put_behind (front old) 0 at n2 (at + x.first + x.second) (sent 0 ++ sent 1) (sent 2) (omega (arith, count 0, count 1))
-        (omega (arith, size 0, size 1, d.first_is, d.second_is)) (omega (arith, count 2)))
-        ∙ put_behind (front old) 0 at n3 (at + x.first + x.second + x.third) ((sent 0 ++ sent 1) ++ sent 2) (sent 3) (omega (arith, count 0, count 1, count 2))
-        (omega (arith, size 0, size 1, size 2, d.first_is, d.second_is, d.third_is)) (omega (arith, count 3))
-        ∙ ap (put_part (front old) 0 at) (sym pinned_four)
-        ∙ put_all old x.writes (x.first + x.second + x.third + x.fourth) (pinned 0 parts) (d.writes_are ∙ sym (pinned_count 0 parts))
-        (omega (arith, d.first_is, d.second_is, d.third_is, d.fourth_is, bytes_are) ∙ sym (pinned_sum 0 parts))
+    -- the parts of the places before this one are put, and taken
+    pub record Putting (old : List ℕ) (before : List (List ℕ)) (place next at : ℕ) (buffer : List ℕ) (images : List (List ℕ)) : Type 0 where
+      pub size : length images ≡ 4
+      pub next_is : next ≡ count_all (take place parts)
+      pub at_is : at ≡ start + bytes_all (take place parts)
+      pub put : buffer ≡ put_part (front old) 0 start (pinned 0 (take place parts))
+      pub taken : (k : ℕ) → k < place → image_at images k ≡ store_all (part_at parts k) (image_at before k)
+      pub others : (k : ℕ) → place ≤ k → image_at images k ≡ image_at before k
 
-    abbrev w : ℕ → List Burst
-    w = waiting present records
+    pub putting_start : (old : List ℕ) (before : List (List ℕ)) (at : ℕ) (buffer : List ℕ) → length before ≡ 4 → at ≡ start → buffer ≡ front old →
+        Putting old before 0 0 at buffer before
+    putting_start old before at buffer n ea eb = record {
+      size = n;
+      next_is = refl;
+      at_is = omega (arith, ea);
+      put = eb;
+      taken = λ k h. absurd (omega arith);
+      others = λ k h. refl;
+    }
 
-    -- how many writes the parts have that fit the bytes dealt out
-    record Counts : Type 0 where
-      sum_is : x.writes ≡ length (portion x.first (w 0)) + length (portion x.second (w 1)) + length (portion x.third (w 2)) + length (portion x.fourth (w 3))
+    module _ (d : DealtAre limit present records x) where
+      pub part_size_at : (k : ℕ) → get_or x.bytes k 0 ≡ bus_bytes (part_at parts k)
+      part_size_at k = ap (λ (l : List ℕ). get_or l k 0) d.bytes_are ∙ bytes_at parts k
 
-    part_counts : Counts
-    part_counts =
-        let a = ap length (part_again 0 x.first (omega arith) d.first_is) in
-        let b = ap length (part_again 1 x.second (omega arith) d.second_is) in
-        let c = ap length (part_again 2 x.third (omega arith) d.third_is) in
-        let e = ap length (part_again 3 x.fourth (omega arith) d.fourth_is) in
-        record { sum_is = omega (arith, d.writes_are, counts_are, a, b, c, e) }
+      total : sum x.bytes ≡ bytes_all parts
+      total = ap sum d.bytes_are ∙ bytes_sum parts
 
-    -- the room of a part: n1 to n3 are the indices behind the parts before it
-    abbrev Room : ℕ → ℕ → ℕ → List Burst → Type 0
-    Room bytes place index part = (bytes ≤ 8192) × (place ≤ 65536) × (4 + 2 * (index + length part) ≤ place)
+      module _ (old : List ℕ) (before : List (List ℕ)) (place next at : ℕ) (buffer : List ℕ) (images : List (List ℕ))
+          (g : Putting old before place next at buffer images) (h : place < 4) where
+        within : place < length parts
+        within = omega (arith, four_parts present records limit)
 
-    module _ (l : limit ≤ 4096) where
-      pub first_room : Room x.first at 0 (portion x.first (w 0))
-      first_room = (omega (arith, d.most), omega (arith, d.most, d.few), omega (arith, part_counts.sum_is))
+        bytes : ℕ
+        bytes = get_or x.bytes place 0
 
-      module _ (n1 : ℕ) (e1 : n1 ≡ 0 + length (portion x.first (w 0))) where
-        pub second_room : Room x.second (at + x.first) n1 (portion x.second (w 1))
-        second_room = (omega (arith, d.most), omega (arith, d.most, d.few), omega (arith, part_counts.sum_is))
+        is : portion (get_or x.bytes place 0) (waiting present records place) ≡ part_at parts place
+        is = part_again place (get_or x.bytes place 0) h (part_size_at place)
 
-        module _ (n2 : ℕ) (e2 : n2 ≡ n1 + length (portion x.second (w 1))) where
-          pub third_room : Room x.third (at + x.first + x.second) n2 (portion x.third (w 2))
-          third_room = (omega (arith, d.most), omega (arith, d.most, d.few), omega (arith, part_counts.sum_is))
+        -- there is room for the part
+        pub putting_room : limit ≤ 4096 → (get_or x.bytes place 0 ≤ 8192) × (at ≤ 65536) × (at + get_or x.bytes place 0 ≤ 65536)
+            × (4 + 2 * (next + length (portion (get_or x.bytes place 0) (waiting present records place))) ≤ at)
+        putting_room l =
+            let t = part_within parts place within in
+            let e = part_size_at place in
+            let f = ap length is in (
+              omega (arith, t.1, e, total, d.most),
+              omega (arith, t.1, g.at_is, total, d.most, d.few),
+              omega (arith, t.1, e, g.at_is, total, d.most, d.few),
+              omega (arith, t.0, f, g.next_is, g.at_is, d.writes_are),
+            )
 
-          pub fourth_room : (n3 : ℕ) → n3 ≡ n2 + length (portion x.third (w 2)) → Room x.fourth (at + x.first + x.second + x.third) n3 (portion x.fourth (w 3))
-          fourth_room n3 e3 = (omega (arith, d.most), omega (arith, d.most, d.few), omega (arith, part_counts.sum_is))
+        pub putting_more : AllPlaced present records → (after : ℕ) (new taken : List ℕ) →
+            Puts (present place) (records place) next at (get_or x.bytes place 0) after buffer new (image_at images place) taken →
+            Putting old before (place + 1) after (at + get_or x.bytes place 0) new (set images place taken)
+        putting_more p after new taken f =
+            let part : List Burst = part_at parts place in
+            let done : List (List Burst) = take place parts in
+            let next_place : place + 1 ≡ suc place = omega arith in
+            let more : take (place + 1) parts ≡ done ++ (part ∷ []) = ap (λ (k : ℕ). take k parts) next_place ∙ part_more parts place within in
+            let last : length done ≡ place = length-take-le place parts (omega (arith, within)) in
+            let sent : List (List ℕ) = map (transaction_of 0 place) part in
+            let pins : pinned 0 (take (place + 1) parts) ≡ pinned 0 done ++ sent =
+            ap (pinned 0) more ∙ pinned_append 0 done (part ∷ [])
+            ∙ ap (λ (l : List (List ℕ)). pinned 0 done ++ l) (append-nil (map (transaction_of 0 (0 + length done)) part))
+            ∙ ap (λ (k : ℕ). pinned 0 done ++ map (transaction_of 0 k) part) (omega (arith, last)) in
+            let count : count_all (take (place + 1) parts) ≡ count_all done + length part = omega (arith, ap count_all more, count_append done (part ∷ [])) in
+            let size : bytes_all (take (place + 1) parts) ≡ bytes_all done + bus_bytes part = omega (arith, ap bytes_all more, bytes_append done (part ∷ [])) in
+            let room : place < length images = omega (arith, g.size) in
+            record {
+              size = length-set images place taken ∙ g.size;
+              next_is = omega (arith, f.value, ap length is, g.next_is, count);
+              at_is = omega (arith, g.at_is, part_size_at place, size);
+              put =
+                  f.buffer_after
+                  ∙ ap (put_part buffer next at) (part_pinned p place (get_or x.bytes place 0) h (part_size_at place))
+                  ∙ ap (λ (l : List ℕ). put_part l next at sent) g.put
+                  ∙ put_behind (front old) 0 start next at (pinned 0 done) sent (omega (arith, g.next_is, pinned_count 0 done))
+                  (omega (arith, g.at_is, joined_bytes 0 done))
+                  (omega (arith, (part_within parts place within).0, g.next_is, d.writes_are, length-map part (transaction_of 0 place)))
+                  ∙ ap (put_part (front old) 0 start) (sym pins);
+              taken =
+                  below_more _ _ (λ k b. let ne : k ≢ place = omega arith in rw get_or-set_other (g.taken k b))
+                  (rw get_or-set_same (f.image_after ∙ ap₂ store_all is (g.others place (omega arith))));
+              others = λ k b. let ne : k ≢ place = omega arith in rw get_or-set_other (g.others k (omega arith));
+            }
 
-    -- so the round's list is put, and each image takes its part
-    pub round_put : AllPlaced present records → (old b0 b1 b2 b3 b4 : List ℕ) (n1 n2 n3 n4 : ℕ) (m0 t0 m1 t1 m2 t2 m3 t3 : List ℕ) → b0 ≡ front old →
-        Puts (present 0) (records 0) 0 at x.first n1 b0 b1 m0 t0 → Puts (present 1) (records 1) n1 (at + x.first) x.second n2 b1 b2 m1 t1 →
-        Puts (present 2) (records 2) n2 (at + x.first + x.second) x.third n3 b2 b3 m2 t2 →
-        Puts (present 3) (records 3) n3 (at + x.first + x.second + x.third) x.fourth n4 b3 b4 m3 t3 →
-        RoundPut parts old b4 m0 t0 m1 t1 m2 t2 m3 t3
-    round_put p old b0 b1 b2 b3 b4 n1 n2 n3 n4 m0 t0 m1 t1 m2 t2 m3 t3 e0 f0 f1 f2 f3 =
-        let is : (k bytes : ℕ) → k < 4 → bytes ≡ bus_bytes (part_at parts k) → portion bytes (w k) ≡ part_at parts k = part_again in
-        let a = is 0 x.first (omega arith) d.first_is in
-        let b = is 1 x.second (omega arith) d.second_is in
-        let c = is 2 x.third (omega arith) d.third_is in
-        let e = is 3 x.fourth (omega arith) d.fourth_is in
-        let put : (k bytes : ℕ) → k < 4 → bytes ≡ bus_bytes (part_at parts k) → (buffer : List ℕ) (index place : ℕ) →
-        put_part buffer index place (map (transaction_of (records k).header.bus (records k).header.pins) (portion bytes (w k))) ≡ put_part buffer index place (sent k) =
-        λ k bytes h q buffer index place. ap (put_part buffer index place) (part_pinned p k bytes h q) in
-        record {
-          written =
-              list_put old b1 b2 b3 b4 n1 n2 n3 (f0.0 ∙ ap (λ (xs : List Burst). 0 + length xs) a) (f1.0 ∙ ap (λ (xs : List Burst). n1 + length xs) b)
-              (f2.0 ∙ ap (λ (xs : List Burst). n2 + length xs) c)
-              (f0.1.0 ∙ put 0 x.first (omega arith) d.first_is b0 0 at ∙ ap (λ (l : List ℕ). put_part l 0 at (sent 0)) e0)
-              (f1.1.0 ∙ put 1 x.second (omega arith) d.second_is b1 n1 (at + x.first))
-              (f2.1.0 ∙ put 2 x.third (omega arith) d.third_is b2 n2 (at + x.first + x.second))
-              (f3.1.0 ∙ put 3 x.fourth (omega arith) d.fourth_is b3 n3 (at + x.first + x.second + x.third));
-          first_taken = f0.1.1 ∙ ap (λ (xs : List Burst). store_all xs m0) a;
-          second_taken = f1.1.1 ∙ ap (λ (xs : List Burst). store_all xs m1) b;
-          third_taken = f2.1.1 ∙ ap (λ (xs : List Burst). store_all xs m2) c;
-          fourth_taken = f3.1.1 ∙ ap (λ (xs : List Burst). store_all xs m3) e;
-        }
+      -- all of them
+      pub putting_done : (old : List ℕ) (before : List (List ℕ)) (place next at : ℕ) (buffer : List ℕ) (images : List (List ℕ)) → place ≡ 4 →
+          Putting old before place next at buffer images → RoundPut parts old buffer before images
+      unfolding round_list
+      putting_done old before place next at buffer images e g =
+          let whole : take place parts ≡ parts = take_all place parts (omega (arith, four_parts present records limit)) in
+          record {
+            written =
+                g.put ∙ ap (λ (ps : List (List Burst)). put_part (front old) 0 start (pinned 0 ps)) whole
+                ∙ put_all old x.writes (sum x.bytes) (pinned 0 parts) (d.writes_are ∙ sym (pinned_count 0 parts)) (total ∙ sym (pinned_sum 0 parts));
+            taken = λ k h. g.taken k (omega (arith, e));
+          }

@@ -1,3 +1,4 @@
+pub mod AtPlaces
 pub mod Shares
 pub mod Waiting
 pub mod Portions

@@ -11,9 +11,7 @@ use Rattle.map.specs.declared.refusals.Refusal.TheVariants.{BufferShort, Unsound
 use Rattle.burst.specs.Burst.{Burst}
 use Rattle.host.specs.declared.Record.{Record}
 use Rattle.host.specs.Record.{sound_of}
-use Rattle.update.specs.declared.ListAnswer.{ListAnswer}
-use Rattle.update.specs.declared.ListAnswer.TheVariants.{Listed, Refused}
-use Rattle.update.specs.Update.{is_listed, over, writes_of}
+use Rattle.update.specs.Update.{ListAnswer, listed, refused, is_listed, over, writes_of}
 use Rattle.rounds.specs.Round.{final_portions, round_list, count_all, bytes_all, round_size, least_limit, most_limit, every_place, takes, part_at, round_parts, present_sound, present_placed, round_answer, round_record, round_buffer, waitings}
 
 -- ---- Absent records are not read
@@ -60,8 +58,8 @@ module _ (present : ℕ → Bool) (f g : ℕ → Record) (same : (k : ℕ) → k
       by a c parts =
           cond a
           (cond (leb least_limit limit && leb limit most_limit)
-          (cond c (cond (leb (round_size parts) size) (Listed (count_all parts) (bytes_all parts)) (Refused BufferShort))
-          (Refused NotItsPlace)) (Refused RoundLimit)) (Refused Unsound)
+          (cond c (cond (leb (round_size parts) size) (listed (count_all parts) (bytes_all parts)) (refused BufferShort))
+          (refused NotItsPlace)) (refused RoundLimit)) (refused Unsound)
 
   -- and what is written
   pub buffer_same : (limit : ℕ) (buffer : List ℕ) → round_buffer present f limit buffer ≡ round_buffer present g limit buffer

@@ -1,18 +1,14 @@
 -- A round: document 02, Q-3, "Four panels on one bus." A place is 0 to 3, "in pin order"; what stands at the places is a function of the
 -- place. `limit` is B, and `size` the length of the buffer.
 -- Assumes nothing.
-use Rattle.std.specs.Prelude.{Bool, cond, not, ◌&&◌, ◌||◌, List, [], ◌∷◌, ◌++◌, map, ℕ, zero, suc, ◌+◌, ◌-◌, ◌*◌, ◌/◌, ◌%◌, ◌^◌, leb, eqb, length}
+use Rattle.std.specs.Prelude.{Bool, false, cond, not, ◌&&◌, ◌||◌, List, [], ◌∷◌, ◌++◌, map, ℕ, zero, suc, ◌+◌, ◌-◌, ◌*◌, ◌/◌, ◌%◌, ◌^◌, leb, eqb, min, length, get_or}
 use Rattle.map.specs.declared.refusals.Refusal.TheVariants.{BufferShort, Unsound, RoundLimit, NotItsPlace}
 use Rattle.burst.specs.Burst.{Burst, transaction_of, bus_bytes, list_of}
 use Rattle.plan.specs.Update.{store_all}
 use Rattle.plan.specs.Portion.{portion}
 use Rattle.host.specs.declared.Record.{Record}
 use Rattle.host.specs.Record.{record_of, sound_of}
-use Rattle.update.specs.declared.ListAnswer.{ListAnswer}
-use Rattle.update.specs.declared.ListAnswer.TheVariants.{Listed, Refused}
-use Rattle.update.specs.Update.{is_listed, over, writes_of}
-use Rattle.rounds.specs.declared.Present.{Present}
-use Rattle.rounds.specs.declared.Records.{Records}
+use Rattle.update.specs.Update.{ListAnswer, listed, refused, is_listed, over, writes_of}
 use Rattle.rounds.specs.declared.Rounded.{Rounded}
 
 -- ---- How B is dealt out: cs are the pending lists of the places
@@ -122,8 +118,8 @@ module _ (present : ℕ → Bool) (records : ℕ → Record) where
       cond (every_place present_sound)
       (cond (leb least_limit limit && leb limit most_limit)
       (cond (every_place present_placed)
-      (cond (leb (round_size (round_parts limit)) size) (Listed (count_all (round_parts limit)) (bytes_all (round_parts limit))) (Refused BufferShort))
-      (Refused NotItsPlace)) (Refused RoundLimit)) (Refused Unsound)
+      (cond (leb (round_size (round_parts limit)) size) (listed (count_all (round_parts limit)) (bytes_all (round_parts limit))) (refused BufferShort))
+      (refused NotItsPlace)) (refused RoundLimit)) (refused Unsound)
 
   -- a present record after an accepted round has taken its part; every other one is as it was
   unfoldable pub round_record : ℕ → ℕ → ℕ → Record
@@ -136,31 +132,32 @@ module _ (present : ℕ → Bool) (records : ℕ → Record) where
 
 -- ---- Four as values of the program
 
--- what stands at a place
-abbrev pub at_place : {A : Type 0} → A → A → A → A → ℕ → A
-at_place a b c d zero = a
-at_place a b c d (suc zero) = b
-at_place a b c d (suc (suc zero)) = c
-at_place a b c d (suc (suc (suc k))) = d
-
 -- marks as one number: "bit k of `present` is place k"
 abbrev pub marked : ℕ → ℕ → Bool
 marked marks k = eqb (marks / 2 ^ k % 2) 1
 
-abbrev pub present_by : ℕ → Present
-present_by marks = record { first = marked marks 0; second = marked marks 1; third = marked marks 2; fourth = marked marks 3 }
+abbrev pub present_by : ℕ → List Bool
+present_by marks = marked marks 0 ∷ marked marks 1 ∷ marked marks 2 ∷ marked marks 3 ∷ []
 
-abbrev pub present_at : Present → ℕ → Bool
-present_at p = at_place p.first p.second p.third p.fourth
+-- what stands at the place that a number names: 3 and every number above it is the last one
+abbrev pub at_place : {A : Type 0} → A → List A → ℕ → A
+at_place none xs k = get_or xs (min k 3) none
 
-abbrev pub record_at : Records → ℕ → Record
-record_at r = at_place r.first r.second r.third r.fourth
+-- what stands at a place; behind the four is nobody
+abbrev pub present_at : List Bool → ℕ → Bool
+present_at present k = get_or present k false
+
+abbrev pub no_record : Record
+no_record = record_of (record { member = 0; bus = 0; pins = 0; marks = 0 }) [] []
+
+abbrev pub record_at : List Record → ℕ → Record
+record_at records k = get_or records k no_record
 
 -- the answer, and the four records that the call gives back
-unfoldable pub round_of : Records → Present → ℕ → ℕ → Rounded
-round_of r p limit size =
-    let after = round_record (present_at p) (record_at r) limit size in
+unfoldable pub round_of : List Record → List Bool → ℕ → ℕ → Rounded
+round_of records present limit size =
+    let after = round_record (present_at present) (record_at records) limit size in
     record {
-      answer = round_answer (present_at p) (record_at r) limit size;
-      records = record { first = after 0; second = after 1; third = after 2; fourth = after 3 };
+      answer = round_answer (present_at present) (record_at records) limit size;
+      records = after 0 ∷ after 1 ∷ after 2 ∷ after 3 ∷ [];
     }

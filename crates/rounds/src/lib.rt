@@ -7,139 +7,70 @@ mod planning;
 mod refusals;
 mod writing;
 
-ghost use Rattle.std.specs.Prelude.{◌≡◌, length};
-ghost use Rattle.host.specs.Record.{record_of};
-ghost use Rattle.rounds.specs.Round.{at_place, present_by, present_at, record_at, round_answer, round_buffer, round_of};
-ghost use Rattle.rounds.specs.Dealing.{records_of, ImagesAfter};
+ghost use Rattle.std.specs.Prelude.{◌≡◌, length, map};
+ghost use Rattle.host.specs.Record.{record_of, record_behind};
+ghost use Rattle.rounds.specs.Round.{present_by, present_at, record_at, round_answer, round_buffer, round_of};
+ghost use Rattle.rounds.specs.Dealing.{records_of, CopiesOf, with_images, ImagesAfter};
 
-use host::{Header, Record};
-use update::ListAnswer;
-
-// Which of the four places have a panel that takes part.
-#[derive(Clone, Copy)]
-pub struct Present {
-    pub first: bool,
-    pub second: bool,
-    pub third: bool,
-    pub fourth: bool,
-}
-
-// The headers of the records of the four places.
-#[derive(Clone, Copy)]
-pub struct Headers {
-    pub first: Header,
-    pub second: Header,
-    pub third: Header,
-    pub fourth: Header,
-}
-
-// The records of the four places.
-#[derive(Clone, Copy)]
-pub struct Records {
-    pub first: Record,
-    pub second: Record,
-    pub third: Record,
-    pub fourth: Record,
-}
+use host::{Record, RecordRef};
+use std::array;
+use update::{ListAnswer, Listed};
 
 // The answer of a round, and the records that it gives back.
 #[derive(Clone, Copy)]
 pub struct Rounded {
     pub answer: ListAnswer,
-    pub records: Records,
+    pub records: [Record; 4],
 }
 
 // Bit k of the marks says that place k is present.
-pub fn present_by(marks: usize) -> Present
+pub fn present_by(marks: usize) -> [bool; 4]
     ensures { result ≡ present_by marks }
 {
-    Present {
-        first: marks % 2 == 1,
-        second: marks / 2 % 2 == 1,
-        third: marks / 4 % 2 == 1,
-        fourth: marks / 8 % 2 == 1,
-    }
+    [
+        marks % 2 == 1,
+        marks / 2 % 2 == 1,
+        marks / 4 % 2 == 1,
+        marks / 8 % 2 == 1,
+    ]
 }
 
-// A round on lent images: s0 to s3 are the settings of the four places and i0 to i3 their chip images; m0 to m3 are copies of the chip
-// images, which take what is sent. Sizes come first, so that a short buffer is refused before a byte is written.
-pub fn round_parts<'a>(
-    headers: Headers,
-    present: Present,
+// A round on lent images. The images are copies of the four chip images, and take what is sent. Sizes come first, so that a short buffer
+// is refused before a byte is written.
+pub fn round_parts(
+    records: &[RecordRef<'_>; 4],
+    present: [bool; 4],
     limit: usize,
-    s0: &'a [u8],
-    i0: &'a [u8],
-    s1: &'a [u8],
-    i1: &'a [u8],
-    s2: &'a [u8],
-    i2: &'a [u8],
-    s3: &'a [u8],
-    i3: &'a [u8],
-    m0: &mut [u8],
-    m1: &mut [u8],
-    m2: &mut [u8],
-    m3: &mut [u8],
+    images: &mut [[u8; 908]; 4],
     buffer: &mut [u8],
 ) -> ListAnswer
-    ensures value { result ≡
-        round_answer (present_at present)
-        (records_of headers s0.now i0.now s1.now i1.now s2.now i2.now s3.now i3.now)
-        limit (length buffer.old) }
-    ensures buffer_after { buffer.new ≡
-        round_buffer (present_at present)
-        (records_of headers s0.now i0.now s1.now i1.now s2.now i2.now s3.now i3.now)
-        limit buffer.old }
-    ensures images_after { ImagesAfter (present_at present)
-        (records_of headers s0.now i0.now s1.now i1.now s2.now i2.now s3.now i3.now)
-        limit (length buffer.old)
-        (at_place m0.old m1.old m2.old m3.old)
-        (at_place m0.new m1.new m2.new m3.new) }
+    ensures value { result ≡ round_answer (present_at present) (records_of records.now) limit (length buffer.old) }
+    ensures buffer_after { buffer.new ≡ round_buffer (present_at present) (records_of records.now) limit buffer.old }
+    ensures images_after { ImagesAfter (present_at present) (records_of records.now) limit (length buffer.old) images.old images.new }
 {
-    let kinds = map::kind_table();
-    let size = buffer.len();
-    let planned = planning::plan(
-        &kinds, headers, present, limit, size, s0, i0, s1, i1, s2, i2, s3, i3,
-    );
-    let answer = planned.answer;
-    if !planning::is_listed(answer) {
-        return answer;
-    }
-    writing::put_round(
-        buffer,
-        &kinds,
-        headers,
-        present,
-        planned.dealt,
-        s0,
-        i0,
-        s1,
-        i1,
-        s2,
-        i2,
-        s3,
-        i3,
-        m0,
-        m1,
-        m2,
-        m3,
-        limit,
-    );
-    answer
+    let dealt = planning::plan(records, present, limit, buffer.len())?;
+    writing::put_round(buffer, records, present, dealt, images, limit);
+    Ok(Listed {
+        n: dealt.writes,
+        t: dealt.total(),
+    })
 }
 
-fn headers_of(first: Record, second: Record, third: Record, fourth: Record) -> Headers
-    ensures { result ≡ record { first = first.header; second = second.header; third = third.header; fourth = fourth.header } }
+fn lent(records: &[Record; 4]) -> [RecordRef<'_>; 4]
+    ensures { map record_behind result ≡ records.now }
 {
-    let h0 = first.header;
-    let h1 = second.header;
-    let h2 = third.header;
-    let h3 = fourth.header;
-    Headers {
-        first: h0,
-        second: h1,
-        third: h2,
-        fourth: h3,
+    array::from_fn(|place| records[place].lent())
+}
+
+// A copy of each chip image.
+fn images(records: [Record; 4]) -> [[u8; 908]; 4]
+    ensures { CopiesOf records result }
+{
+    let mut images = [[0; 908]; 4];
+    for place in 0..4 {
+        images[place] = records[place].image;
     }
+    images
 }
 
 fn with_image(mut r: Record, image: [u8; 908]) -> Record
@@ -149,47 +80,22 @@ fn with_image(mut r: Record, image: [u8; 908]) -> Record
     r
 }
 
+fn with_images(records: [Record; 4], images: [[u8; 908]; 4]) -> [Record; 4]
+    ensures { result ≡ with_images records images }
+{
+    array::from_fn(|place| with_image(records[place], images[place]))
+}
+
 // A round over four records, any of them marked absent: that is neither checked nor changed. At most `limit` bus bytes are sent, each
 // present chip gets at least what fits a quarter of them, and its chip image takes what it is sent.
-pub fn round(r: Records, present: Present, limit: usize, buffer: &mut [u8]) -> Rounded
-    ensures value { result ≡ round_of r present limit (length buffer.old) }
-    ensures buffer_after { buffer.new ≡ round_buffer (present_at present) (record_at r) limit buffer.old }
+pub fn round(records: [Record; 4], present: [bool; 4], limit: usize, buffer: &mut [u8]) -> Rounded
+    ensures value { result ≡ round_of records present limit (length buffer.old) }
+    ensures buffer_after { buffer.new ≡ round_buffer (present_at present) (record_at records) limit buffer.old }
 {
-    let first = r.first;
-    let second = r.second;
-    let third = r.third;
-    let fourth = r.fourth;
-    let headers = headers_of(first, second, third, fourth);
-    let mut m0 = first.image;
-    let mut m1 = second.image;
-    let mut m2 = third.image;
-    let mut m3 = fourth.image;
-    let answer = round_parts(
-        headers,
-        present,
-        limit,
-        &first.settings,
-        &first.image,
-        &second.settings,
-        &second.image,
-        &third.settings,
-        &third.image,
-        &fourth.settings,
-        &fourth.image,
-        &mut m0,
-        &mut m1,
-        &mut m2,
-        &mut m3,
-        buffer,
-    );
-    let records = Records {
-        first: with_image(first, m0),
-        second: with_image(second, m1),
-        third: with_image(third, m2),
-        fourth: with_image(fourth, m3),
-    };
+    let mut images = images(records);
+    let answer = round_parts(&lent(&records), present, limit, &mut images, buffer);
     Rounded {
-        answer: answer,
-        records: records,
+        answer,
+        records: with_images(records, images),
     }
 }

@@ -1,46 +1,26 @@
--- `rounds::dealing::deal` meets its contract.
+-- Each place gets its part within its first portion and what is left, and the rest goes on.
 -- Assumes nothing.
-use native.Mathlib.Omega.{arith}
-use Rattle.rounds.proofs.Shares.{firsts_fit, dealt_are}
+use Rattle.std.proofs.Common.{ℕ, ◌≡◌, get_or, sym, ap, ◌∙◌, subst, sum, ◌≤◌, arith, refl}
+use Rattle.plan.specs.Portion.{portion}
+use Rattle.burst.specs.Burst.{bus_bytes}
+use Rattle.rounds.specs.Round.{present_at, share_of, waiting}
+use Rattle.rounds.specs.Dealing.{records_of}
+use Rattle.rounds.proofs.AtPlaces.{waits_at, sized_at}
+use Rattle.rounds.proofs.Shares.{first_at, firsts_fit, dealing_start, dealing_room, dealing_more, dealing_done}
 use Rattle.rounds.proofs.dealing.deal.Goals as goal
 
 pub left_over-left-requires : goal.left_over-left-requires
-left_over-left-requires c = (firsts_fit _ _ _ _ c.requires.2).0
+left_over-left-requires c = rw c.requires.firsts (firsts_fit (present_at c.args.present) (records_of c.args.records.now) c.args.limit)
 
-pub given_at-a-requires : goal.given_at-a-requires
-given_at-a-requires c =
-    let f = firsts_fit _ _ _ _ c.requires.2 in
-    (record { kinds_are = c.requires.0.kinds_are; sound = c.requires.0.sound 0 (omega arith) }, omega (arith, c.requires.1, f, c.left_over-left.ensures))
+pub size_at-size-requires-clause-lent : goal.size_at-size-requires-clause-lent
+size_at-size-requires-clause-lent c = waits_at c.args.present c.args.records.now c.told-records c.loop-place.place _ c.loop-place-test.true c.requires.sound
 
-pub given_at-b-requires : goal.given_at-b-requires
-given_at-b-requires c =
-    let f = firsts_fit _ _ _ _ c.requires.2 in
-    (record { kinds_are = c.requires.0.kinds_are; sound = c.requires.0.sound 1 (omega arith) }, omega (arith, c.requires.1, f, c.left_over-left.ensures, c.given_at-a.ensures.2))
-
-pub given_at-c-requires : goal.given_at-c-requires
-given_at-c-requires c =
-    let f = firsts_fit _ _ _ _ c.requires.2 in
-    (record { kinds_are = c.requires.0.kinds_are; sound = c.requires.0.sound 2 (omega arith) }, omega (arith, c.requires.1, f, c.left_over-left.ensures, c.given_at-a.ensures.2, c.given_at-b.ensures.2))
-
-pub given_at-d-requires : goal.given_at-d-requires
-given_at-d-requires c =
-    let f = firsts_fit _ _ _ _ c.requires.2 in
-    (record { kinds_are = c.requires.0.kinds_are; sound = c.requires.0.sound 3 (omega arith) }, omega (arith, c.requires.1, f, c.left_over-left.ensures, c.given_at-a.ensures.2, c.given_at-b.ensures.2, c.given_at-c.ensures.2))
+pub loop-place-preserved : goal.loop-place-preserved
+loop-place-preserved c =
+    let place : ℕ = c.loop-place.place in
+    let first = ap (λ firsts. get_or firsts place 0) c.requires.firsts ∙ first_at (present_at c.args.present) (records_of c.args.records.now) (share_of c.args.limit) place c.loop-place-test.true in
+    dealing_more _ _ _ _ _ _ _ c.loop-place.invariant c.loop-place-test.true _ _ _ first
+    (sized_at c.args.present c.args.records.now c.told-records place _ c.loop-place-test.true _ _ _ c.size_at-size.ensures.0) c.size_at-size.ensures.1 c.size_at-size.ensures.2
 
 pub returns : goal.returns
-returns c =
-    dealt_are _ _ _ _ c.requires.2 _ c.left_over-left.ensures _ _ _ _ _ _ _ _ _ _ _ _
-    c.given_at-a.ensures c.given_at-b.ensures c.given_at-c.ensures c.given_at-d.ensures
-
--- UNPLACED
--- add-t21 : tie.Need-overflow-add-t21
--- add-t21 c =
---     let p = c.before.before.before.before.before.before.before.before.before.before.before.before.before.before.before.before.before.before.requires in
---     let f = firsts_fit _ _ _ _ p.2 in
---     let g = c.before.before.before.before in
---     let over = g.before.before.before.before.left_over.ensures in
---     let first = g.before.before.before.given-at.ensures in
---     let second = g.before.before.given-at2.ensures in
---     let third = g.before.given-at3.ensures in
---     let fourth = g.given-at4.ensures in
---     omega (arith, p.1, f, over, first.1, first.2, second.1, second.2, third.1, third.2, fourth.1, fourth.2)
+returns c = dealing_done _ _ _ _ _ _ _ (omega arith) c.loop-place.invariant

@@ -1,16 +1,25 @@
--- `rounds::dealing::first_sizes` meets its contract.
+-- One portion more, within the share.
 -- Assumes nothing.
-use native.Mathlib.Omega.{arith}
+use Rattle.std.proofs.Common.{ℕ, ◌<◌, ◌≢◌, length, sym, ◌∙◌, arith, get_or-set_other, get_or-set_same, below_more}
+use Rattle.std.proofs.lemmas.List.{length-set}
+use Rattle.std.proofs.lemmas.Grind.{same_number_lists}
+use Rattle.rounds.specs.Round.{present_at}
+use Rattle.rounds.specs.Dealing.{records_of, first_bytes}
+use Rattle.rounds.proofs.AtPlaces.{sized_at}
+use Rattle.rounds.proofs.Shares.{first_at}
 use Rattle.rounds.proofs.dealing.first_sizes.Goals as goal
 
-pub size_at-first-requires : goal.size_at-first-requires
-size_at-first-requires c = (record { kinds_are = c.requires.0.kinds_are; sound = c.requires.0.sound 0 (omega arith) }, omega (arith, c.requires.1))
+pub loop-place-preserved : goal.loop-place-preserved
+loop-place-preserved c =
+    let place : ℕ = c.loop-place.place in
+    let lt : place < length c.loop-place.firsts = omega arith in
+    let is = sized_at c.args.present c.args.records.now c.told-records place _ c.loop-place-test.true _ _ _ c.size_at.ensures.0 in (
+      length-set c.loop-place.firsts place _ ∙ c.loop-place.invariant.0,
+      below_more _ _ (λ k h. let ne : k ≢ place = omega arith in rw get_or-set_other (c.loop-place.invariant.1 k h))
+          (rw get_or-set_same (is.bytes_are ∙ sym (first_at (present_at c.args.present) (records_of c.args.records.now) c.args.share place c.loop-place-test.true))),
+    )
 
-pub size_at-second-requires : goal.size_at-second-requires
-size_at-second-requires c = (record { kinds_are = c.requires.0.kinds_are; sound = c.requires.0.sound 1 (omega arith) }, omega (arith, c.requires.1))
-
-pub size_at-third-requires : goal.size_at-third-requires
-size_at-third-requires c = (record { kinds_are = c.requires.0.kinds_are; sound = c.requires.0.sound 2 (omega arith) }, omega (arith, c.requires.1))
-
-pub size_at-fourth-requires : goal.size_at-fourth-requires
-size_at-fourth-requires c = (record { kinds_are = c.requires.0.kinds_are; sound = c.requires.0.sound 3 (omega arith) }, omega (arith, c.requires.1))
+pub returns : goal.returns
+returns c =
+    same_number_lists _ (first_bytes c.args.share (present_at c.args.present) (records_of c.args.records.now)) c.loop-place.invariant.0
+    (λ k h. c.loop-place.invariant.1 k (omega arith))

@@ -1,6 +1,6 @@
--- `rounds::refusals::refusal` meets its contract.
+-- Each test that fails decides, those before it having passed.
 -- Assumes nothing.
-use mathlib.Core.Path.{sym, ◌∙◌}
+use Rattle.std.proofs.Common.{sym, ◌∙◌}
 use Rattle.rounds.specs.Dealing.{round_refusal}
 use Rattle.rounds.proofs.refusals.refusal.Goals as goal
 

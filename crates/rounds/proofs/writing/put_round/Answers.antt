@@ -1,75 +1,34 @@
--- `rounds::writing::put_round` meets its contract.
+-- The part of one place behind those before it.
 -- Assumes nothing.
-use mathlib.Core.Path.{◌∙◌}
-use native.Mathlib.Omega.{arith}
-use lib.Dec.{lit<}
+use Rattle.std.proofs.Common.{ℕ, ◌<◌, get_or, length, sym, ap, subst, arith}
+use Rattle.host.specs.declared.Record.{Record}
 use Rattle.rounds.specs.Round.{present_at}
-use Rattle.rounds.specs.Dealing.{records_of}
-use Rattle.rounds.proofs.Joining.{waits_at, first_room, second_room, third_room, fourth_room, round_put}
+use Rattle.rounds.specs.Dealing.{records_of, waiting_of, image_at}
+use Rattle.rounds.proofs.AtPlaces.{lent_at, free_at}
+use Rattle.rounds.proofs.Joining.{Puts, putting_room, putting_more, putting_done}
 use Rattle.rounds.proofs.writing.put_round.Goals as goal
 
-pub overflow_add-dealt : goal.overflow_add-dealt
-overflow_add-dealt c = omega (arith, c.requires.2.most, c.requires.3)
+pub put_at-next-requires-clause-near : goal.put_at-next-requires-clause-near
+put_at-next-requires-clause-near c = (putting_room _ _ _ _ c.requires.dealt _ _ _ _ _ _ _ c.loop-place.invariant c.loop-place-test.true c.requires.limited).1
 
-pub overflow_add-dealt-2 : goal.overflow_add-dealt-2
-overflow_add-dealt-2 c = omega (arith, c.requires.2.most, c.requires.3)
+pub put_at-next-requires-clause-free : goal.put_at-next-requires-clause-free
+put_at-next-requires-clause-free c =
+    let room = putting_room _ _ _ _ c.requires.dealt _ _ _ _ _ _ _ c.loop-place.invariant c.loop-place-test.true c.requires.limited in
+    free_at c.args.present c.args.records.now c.told-records c.loop-place.place _ c.loop-place-test.true _ _ _ room.3
 
-pub overflow_add-dealt-3 : goal.overflow_add-dealt-3
-overflow_add-dealt-3 c = omega (arith, c.requires.2.most, c.requires.3)
+pub overflow_add-at-in-loop-place : goal.overflow_add-at-in-loop-place
+overflow_add-at-in-loop-place c =
+    let room = putting_room _ _ _ _ c.requires.dealt _ _ _ _ _ _ _ c.loop-place.invariant c.loop-place-test.true c.requires.limited in
+    omega (arith, room.2)
 
-pub overflow_mul-at : goal.overflow_mul-at
-overflow_mul-at c = omega (arith, c.requires.2.most, c.requires.2.few, c.requires.3)
-
-pub overflow_add-at : goal.overflow_add-at
-overflow_add-at c = omega (arith, c.requires.2.most, c.requires.2.few, c.requires.3)
-
-pub put_at-next-requires : goal.put_at-next-requires
-put_at-next-requires c =
-    let r = first_room _ _ _ _ c.requires.2 c.requires.3 in
-    (waits_at _ _ _ c.requires.0 0 (lit< tt), r.0, r.1, r.2)
-
-pub overflow_add-at-2 : goal.overflow_add-at-2
-overflow_add-at-2 c = omega (arith, c.requires.2.most, c.requires.2.few, c.requires.3)
-
-pub put_at-next-requires-2 : goal.put_at-next-requires-2
-put_at-next-requires-2 c =
-    let r = second_room _ _ _ _ c.requires.2 c.requires.3 _ c.put_at-next.ensures.value in
-    (waits_at _ _ _ c.requires.0 1 (lit< tt), r.0, r.1, r.2)
-
-pub overflow_add-at-3 : goal.overflow_add-at-3
-overflow_add-at-3 c = omega (arith, c.requires.2.most, c.requires.2.few, c.requires.3)
-
-pub put_at-next-requires-3 : goal.put_at-next-requires-3
-put_at-next-requires-3 c =
-    let r = third_room _ _ _ _ c.requires.2 c.requires.3 _ c.put_at-next.ensures.value _ c.put_at-next-2.ensures.value in
-    (waits_at _ _ _ c.requires.0 2 (lit< tt), r.0, r.1, r.2)
-
-pub overflow_add-at-4 : goal.overflow_add-at-4
-overflow_add-at-4 c = omega (arith, c.requires.2.most, c.requires.2.few, c.requires.3)
-
-pub put_at-requires : goal.put_at-requires
-put_at-requires c =
-    let r = fourth_room _ _ _ _ c.requires.2 c.requires.3 _ c.put_at-next.ensures.value _ c.put_at-next-2.ensures.value _ c.put_at-next-3.ensures.value in
-    (waits_at _ _ _ c.requires.0 3 (lit< tt), r.0, r.1, r.2)
-
--- the buffer is lent five times, and each call keeps its length
-pub shape_of-buffer : goal.shape_of-buffer
-shape_of-buffer c = c.put_at.auto.buffer ∙ c.put_at-next-3.auto.buffer ∙ c.put_at-next-2.auto.buffer ∙ c.put_at-next.auto.buffer ∙ c.put_header.auto.buffer
-
-pub shape_of-m0 : goal.shape_of-m0
-shape_of-m0 c = c.put_at-next.auto.image
-
-pub shape_of-m1 : goal.shape_of-m1
-shape_of-m1 c = c.put_at-next-2.auto.image
-
-pub shape_of-m2 : goal.shape_of-m2
-shape_of-m2 c = c.put_at-next-3.auto.image
-
-pub shape_of-m3 : goal.shape_of-m3
-shape_of-m3 c = c.put_at.auto.image
+pub loop-place-preserved : goal.loop-place-preserved
+loop-place-preserved c =
+    let place : ℕ = c.loop-place.place in
+    let puts = subst (λ (r : Record). Puts (present_at c.args.present place) r c.loop-place.next c.loop-place.at (get_or c.args.dealt.bytes place 0)
+    c.put_at-next.result c.loop-place.buffer c.put_at-next.new.buffer (image_at c.loop-place.images place) c.put_at-next.new.image)
+    (sym (lent_at c.args.records.now place _ (omega (arith, c.told-records))))
+    (record { value = c.put_at-next.ensures.value; buffer_after = c.put_at-next.ensures.buffer_after; image_after = c.put_at-next.ensures.image_after }) in
+    putting_more _ _ _ _ c.requires.dealt _ _ _ _ _ _ _ c.loop-place.invariant c.loop-place-test.true c.requires.placed _ _ _ puts
 
 pub returns : goal.returns
-returns c =
-    round_put c.args.limit (present_at c.args.present) (records_of c.args.headers c.args.s0.now c.args.i0.now c.args.s1.now c.args.i1.now c.args.s2.now c.args.i2.now c.args.s3.now c.args.i3.now)
-    c.args.dealt c.requires.2 c.requires.1 c.args.buffer.now _ _ _ _ _ _ _ _ _ c.args.m0.now _ c.args.m1.now _ c.args.m2.now _ c.args.m3.now _ c.put_header.ensures
-    (c.put_at-next.ensures.value, (c.put_at-next.ensures.buffer_after, c.put_at-next.ensures.image_after)) (c.put_at-next-2.ensures.value, (c.put_at-next-2.ensures.buffer_after, c.put_at-next-2.ensures.image_after)) (c.put_at-next-3.ensures.value, (c.put_at-next-3.ensures.buffer_after, c.put_at-next-3.ensures.image_after)) (c.put_at.ensures.value, (c.put_at.ensures.buffer_after, c.put_at.ensures.image_after))
+returns c = putting_done _ _ _ _ c.requires.dealt _ _ _ _ _ _ _ (omega arith) c.loop-place.invariant
