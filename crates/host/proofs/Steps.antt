@@ -10,7 +10,8 @@ use native.Mathlib.Omega.{arith}
 use borrow.Author.Tests.{le-leb, lt-leb, le-ltb, lt-ltb, eq-eqb, ne_eqb, leb-true, eqb-true}
 use lib.Dec.{ltb, leb, eqb}
 use lib.Bits.{bit_and}
-use lib.ListN.{length, get_or, set, length-set}
+use lib.ListN.{length, get_or, set, take, drop, length-set}
+use Rattle.std.proofs.lemmas.List.{get_or-take, get_or-drop}
 use Rattle.map.specs.declared.kinds.Kind.{Kind}
 use Rattle.map.specs.declared.dots.Field.{Field}
 use Rattle.map.specs.declared.dots.Field as fields
@@ -248,10 +249,11 @@ next_holds f i e = all_more f 0 i (ap f (zero-add i) ∙ e)
 pub one_fails : (f : ℕ → Bool) (n i : ℕ) → i < n → f i ≡ false → all_from f 0 n ≡ false
 one_fails f n i h e = all_fails f 0 n i h (ap f (zero-add i) ∙ e)
 
-pub scene_dot_lem : (m : ℕ) (bytes : List ℕ) (n cs i : ℕ) (r : Bool) → n ≡ lines_of m → cs ≡ columns_of m → r ≡ number_in n cs (get_or bytes (2 + i) 0) →
-    scene_has_dot m bytes i ≡ r
+pub scene_dot_lem : (m : ℕ) (bytes : List ℕ) (n k i : ℕ) {lines columns : ℕ} (r : Bool) → i < n → lines ≡ lines_of m → columns ≡ columns_of m →
+    r ≡ number_in lines columns (get_or (take k (drop 2 bytes)) i 0) → k ≡ n → scene_has_dot m bytes i ≡ r
 unfolding scene_has_dot scene_dot
-scene_dot_lem m bytes n cs i r en ec er = rw (sym en, sym ec) (sym er)
+scene_dot_lem m bytes n k i r h en ec er ek =
+    rw (sym en, sym ec) (sym (er ∙ ap (number_in _ _) (get_or-take k (drop 2 bytes) i 0 (omega arith) ∙ get_or-drop 2 bytes i 0)))
 
 pub level_above : (top : ℕ) (bytes : List ℕ) (n i v : ℕ) → n ≡ scene_count bytes → v ≡ scene_word bytes (2 + n + 2 * i) → top < v →
     scene_fits top bytes i ≡ false

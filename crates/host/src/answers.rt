@@ -37,9 +37,13 @@ fn register(header: Header, address: usize, value: usize) -> Answer
 {
     let member = header.member as usize;
     let kind = map::kind_at(address);
-    let lines = map::lines(member);
-    let columns = map::columns(member);
-    let mask = map::reserved_as(kind, member, lines, columns, address);
+    let mask = map::reserved_as(
+        kind,
+        member,
+        map::lines(member),
+        map::columns(member),
+        address,
+    );
     if 255 <= mask {
         return Err(Refusal::NotWritable);
     }

@@ -28,8 +28,8 @@ fn has_dots(member: usize, bytes: &[u8], n: usize) -> bool
 {
     let lines = map::lines(member);
     let columns = map::columns(member);
-    for i in 0..n {
-        if !map::number_in(lines, columns, bytes[2 + i] as usize) {
+    for number in &bytes[2..2 + n] {
+        if !map::number_in(lines, columns, *number as usize) {
             return false;
         }
     }

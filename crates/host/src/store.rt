@@ -72,34 +72,25 @@ pub fn put_setting(
     ensures numbers { (image : List ℕ) → answer ≡ setting_answer (record_of header settings.old image) setting lent.now →
         result ≡ numbers_of (setting_numbers (record_of header settings.old image) setting lent.now) }
 {
+    let numbers = map::answer_numbers(answer);
     let Ok(()) = answer else {
-        return map::answer_numbers(answer);
+        return numbers;
     };
     let member = header.member as usize;
     match setting {
-        Setting::Register { address, value } => {
-            put_byte(settings, address, (value % 256) as u8);
-            map::answer_numbers(answer)
-        }
-        Setting::Lamp { line, sink, level } => {
-            put_lamp(settings, line, sink, level);
-            map::answer_numbers(answer)
-        }
+        Setting::Register { address, value } => put_byte(settings, address, (value % 256) as u8),
+        Setting::Lamp { line, sink, level } => put_lamp(settings, line, sink, level),
         Setting::Group { line, sink, group } => {
             let value = (group % 256) as u8;
             dots::put_field(Field::Group, member, settings, line, sink, value);
-            map::answer_numbers(answer)
         }
         Setting::Switch { line, sink, state } => {
             let value = (state % 256) as u8;
             dots::put_field(Field::Switch, member, settings, line, sink, value);
-            map::answer_numbers(answer)
         }
-        Setting::Scene => {
-            scenes::put(settings, lent);
-            map::answer_numbers(answer)
-        }
+        Setting::Scene => scenes::put(settings, lent),
     }
+    numbers
 }
 
 // The reset values, into the image of a record whose Power lost or Reset was accepted.
