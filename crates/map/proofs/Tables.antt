@@ -4,9 +4,9 @@ use mathlib.Core.Path.{◌≡◌, refl}
 use mathlib.Core.Bool.{Bool, true, false, cond}
 use Prim.Native.Nat.{ℕ, ◌<◌}
 use native.Mathlib.Omega.{arith}
-use lib.Dec.{ltb, eqb}
-use lib.ListN.{length, get_or-eq_default}
-use Rattle.map.specs.Map.{first_masks, first_mask, common_masks, lp5861t_masks}
+use lib.Dec.{eqb}
+use lib.ListN.{get_or, length, get_or-eq_default}
+use Rattle.map.specs.Map.{first_masks, common_masks, lp5861t_masks}
 
 masks_length : (m : ℕ) → length (first_masks m) ≡ 12
 unfolding first_masks
@@ -16,10 +16,5 @@ masks_length m = go (eqb m 1)
     go true = refl
     go false = refl
 
-pub mask_past : (m a : ℕ) → 11 < a → first_mask m a ≡ 255
-unfolding first_mask
-mask_past m a h = either (ltb m 5) _ (get_or-eq_default (first_masks m) 255 (omega (arith, masks_length m)))
-  where
-    either : (b : Bool) (x : ℕ) → x ≡ 255 → cond b x 255 ≡ 255
-    either true x e = e
-    either false x e = refl
+pub masks_past : (m a : ℕ) → 11 < a → get_or (first_masks m) a 255 ≡ 255
+masks_past m a h = get_or-eq_default (first_masks m) 255 (omega (arith, masks_length m))

@@ -76,6 +76,7 @@ pub fn is_dot(member: usize, line: usize, sink: usize) -> bool
 }
 
 // A dot's number, where the member has the dot.
+#[tactic(auto, using(crate::specs::MapLaws::dot_line, crate::specs::MapLaws::dot_sink, crate::specs::MapLaws::lines_most), unfolding(crate::specs::Map::number_of))]
 pub fn dot_number(member: usize, line: usize, sink: usize) -> Option<usize>
     ensures { result ≡ number_of member line sink }
 {
@@ -140,6 +141,7 @@ fn place_as(field: Field, line: usize, sink: usize) -> Place
 }
 
 // Where a field of a dot stands, where the member has the dot.
+#[tactic(auto, using(crate::specs::MapLaws::dot_line, crate::specs::MapLaws::dot_sink, crate::specs::MapLaws::lines_most), unfolding(crate::specs::Map::place_of))]
 pub fn place_of(field: Field, member: usize, line: usize, sink: usize) -> Option<Place>
     ensures { result ≡ place_of field member line sink }
 {

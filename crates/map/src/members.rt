@@ -81,7 +81,7 @@ pub fn first_resets(member: usize) -> [u8; 12]
 }
 
 // The reserved bits of one of them; all bits elsewhere.
-#[tactic(auto, unfolding(crate::specs::Map::first_mask))]
+#[tactic(auto, using(crate::proofs::Tables::masks_past), unfolding(crate::specs::Map::first_mask))]
 pub(crate) fn first_mask(member: usize, address: usize) -> u8
     ensures { result ≡ first_mask member address }
 {
