@@ -3,64 +3,62 @@
 //
 // "A member's own summary table overrides; an address it does not list resets to 00h." "An address is writable for a member if it
 // is 000h-00Bh, or carries a bit for one of its dots as group, switch, current or PWM in either data mode." (document 01)
-use crate::compare::{ADDRESSES, Finding};
+use crate::compare::{ADDRESSES, Comparison, Difference};
+use crate::report;
 use crate::tally::Count;
-use crate::{compare, report, tally};
 use map::{Field, Place};
 use rows::Row;
 
-// A mark for each member and address: 1 where it is listed, 2 where an expected disagreement was found.
-pub const MARKS: usize = 5 * ADDRESSES;
+// What is known of an address of a member.
+#[derive(Clone, Copy, PartialEq, Eq)]
+pub enum Mark {
+    Unlisted,
+    Listed,
+    // listed, and an expected disagreement was found
+    Found,
+}
 
-// Where the mark of an address stands; MARKS where there is none.
-fn mark_of(member: usize, address: usize) -> usize {
-    if 4 < member {
-        return MARKS;
+pub type Marks = [[Mark; ADDRESSES]; 5];
+
+pub fn unmarked() -> Marks {
+    [[Mark::Unlisted; ADDRESSES]; 5]
+}
+
+fn mark_of(marks: &Marks, member: usize, address: usize) -> Option<Mark> {
+    marks.get(member)?.get(address).copied()
+}
+
+fn put_mark(marks: &mut Marks, member: usize, address: usize, mark: Mark) {
+    if member < 5 && address < ADDRESSES {
+        marks[member][address] = mark;
     }
-    if ADDRESSES <= address {
-        return MARKS;
-    }
-    ADDRESSES * member + address
 }
 
 // Marks a row's address, which no other row of the member may have.
-pub fn listed(marks: &mut [u8], row: Row) -> Finding {
-    let at = mark_of(row.member, row.address);
-    if marks.len() <= at {
-        return Finding::Nothing;
-    }
-    let mark = marks[at];
-    marks[at] = 1;
-    if mark == 0 {
-        Finding::Agrees
-    } else {
-        Finding::Twice
-    }
+pub fn listed(marks: &mut Marks, row: Row) -> Option<Comparison> {
+    let before = mark_of(marks, row.member, row.address)?;
+    put_mark(marks, row.member, row.address, Mark::Listed);
+    Some(match before {
+        Mark::Unlisted => Ok(()),
+        _ => Err(Difference::Twice),
+    })
 }
 
-fn is_listed(marks: &[u8], member: usize, address: usize) -> bool {
-    let at = mark_of(member, address);
-    at < marks.len() && marks[at] != 0
+fn is_listed(marks: &Marks, member: usize, address: usize) -> bool {
+    mark_of(marks, member, address).is_some_and(|mark| mark != Mark::Unlisted)
 }
 
 // Marks an expected disagreement.
-pub fn found(marks: &mut [u8], member: usize, address: usize) {
-    let at = mark_of(member, address);
-    if at < marks.len() {
-        marks[at] = 2;
-    }
+pub fn found(marks: &mut Marks, member: usize, address: usize) {
+    put_mark(marks, member, address, Mark::Found);
 }
 
-pub fn is_found(marks: &[u8], member: usize, address: usize) -> bool {
-    let at = mark_of(member, address);
-    at < marks.len() && marks[at] == 2
+pub fn is_found(marks: &Marks, member: usize, address: usize) -> bool {
+    mark_of(marks, member, address) == Some(Mark::Found)
 }
 
-fn has_byte(place: Place, at: usize) -> bool {
-    match place {
-        Place::At { address, shift: _ } => address == at,
-        Place::Absent => false,
-    }
+fn has_byte(place: Option<Place>, at: usize) -> bool {
+    place.is_some_and(|place| place.address == at)
 }
 
 // Whether a dot has a bit at an address. Its 16 bits take two addresses.
@@ -74,65 +72,39 @@ fn dot_carries(member: usize, line: usize, sink: usize, at: usize) -> bool {
         || has_byte(map::place_of(Field::Current, member, line, sink), at)
         || has_byte(map::place_of(Field::Pwm8, member, line, sink), at)
         || has_byte(wide, at)
-        || has_byte(wide, compare::before(at, 1))
-}
-
-fn line_carries(member: usize, line: usize, at: usize) -> bool {
-    for sink in 0..18 {
-        if dot_carries(member, line, sink, at) {
-            return true;
-        }
-    }
-    false
+        || at.checked_sub(1).is_some_and(|low| has_byte(wide, low))
 }
 
 // Whether an address carries a bit for one of the member's dots.
 fn carries(member: usize, at: usize) -> bool {
-    for line in 0..11 {
-        if line_carries(member, line, at) {
-            return true;
-        }
-    }
-    false
+    (0..11).any(|line| (0..18).any(|sink| dot_carries(member, line, sink, at)))
 }
 
-fn access(rt: &impl Print, count: Count, member: usize, address: usize, carried: bool) -> Count {
+fn access(rt: &impl Print, count: &mut Count, member: usize, address: usize, carried: bool) {
     let writable = map::writable(member, address);
     let agrees = writable == (address < 0x00C || carried);
     if !agrees {
         report::carried(rt, member, address, writable);
     }
-    tally::compared(count, agrees)
+    count.compared(agrees);
 }
 
-fn unlisted(rt: &impl Print, count: Count, member: usize, address: usize, carried: bool) -> Count {
+fn unlisted(rt: &impl Print, count: &mut Count, member: usize, address: usize, carried: bool) {
     let reset = map::reset_value(member, address);
     if reset != 0 {
         report::reset(rt, member, address, reset as usize);
     }
-    tally::compared(tally::unlisted(count, carried), reset == 0)
-}
-
-fn address_counted(
-    rt: &impl Print,
-    count: Count,
-    member: usize,
-    address: usize,
-    listed: bool,
-) -> Count {
-    let carried = carries(member, address);
-    let count = access(rt, count, member, address, carried);
-    if listed {
-        return count;
-    }
-    unlisted(rt, count, member, address, carried)
+    count.unlisted(carried);
+    count.compared(reset == 0);
 }
 
 // What the map has for each address of a member.
-pub fn counted(rt: &impl Print, mut count: Count, member: usize, marks: &[u8]) -> Count {
+pub fn counted(rt: &impl Print, count: &mut Count, member: usize, marks: &Marks) {
     for address in 0..ADDRESSES {
-        let listed = is_listed(marks, member, address);
-        count = address_counted(rt, count, member, address, listed);
+        let carried = carries(member, address);
+        access(rt, count, member, address, carried);
+        if !is_listed(marks, member, address) {
+            unlisted(rt, count, member, address, carried);
+        }
     }
-    count
 }

@@ -1,119 +1,97 @@
-// One row against the register map. Each comparison answers a Finding; none prints.
-use map::{Dot, Field, Kind, Place};
-use rows::{Holds, Named, Row};
+// One row against the register map. Each comparison answers whether row and map agree; none prints.
+use map::{Field, Kind, Place};
+use rows::{Access, Dot, Holds, Row, Unknown};
 
-// How many addresses there are, and so an address that no chip has.
+// How many addresses there are.
 pub const ADDRESSES: usize = 908;
 
-// That there is nothing to compare, that row and map agree, or in what they differ.
+// In what row and map differ.
 #[derive(Clone, Copy)]
-pub enum Finding {
-    Nothing,
-    Agrees,
+pub enum Difference {
     // that another row of the member has the address
     Twice,
     // the map's reset value
     Default(usize),
-    // a line and a sink that the row names, of a dot that the chip has not
-    NoDot(usize, usize),
-    // the map's type, and whether the address is writable
-    Access(u8, bool),
+    // a dot that the row names and the chip has not
+    NoDot(Dot),
+    // the map's type, where it has one, and whether the address is writable
+    Access(Option<Access>, bool),
     // the map's reserved bits
     Reserved(usize),
-    // an index, the line and sink of the dot that the row names there, and the map's place for it
-    Place(usize, usize, usize, Place),
+    // an index, the dot that the row names there, and the map's place for it
+    Place(usize, Dot, Option<Place>),
     // an index at which the row names no dot and the map has one
     Unnamed(usize),
 }
 
-// The address so many places before another; where there is none, one that no chip has.
-pub fn before(address: usize, by: usize) -> usize {
-    if address < by {
-        ADDRESSES
-    } else {
-        address - by
-    }
+pub type Comparison = Result<(), Difference>;
+
+fn agrees_or(agrees: bool, difference: Difference) -> Comparison {
+    if agrees { Ok(()) } else { Err(difference) }
 }
 
-pub fn default(row: Row) -> Finding {
-    if row.default == rows::LOST {
-        return Finding::Nothing;
-    }
+// None where the row has lost its default.
+pub fn default(row: Row) -> Option<Comparison> {
+    let default = row.default?;
     let reset = map::reset_value(row.member, row.address) as usize;
-    if row.default == reset {
-        Finding::Agrees
-    } else {
-        Finding::Default(reset)
-    }
+    Some(agrees_or(default == reset, Difference::Default(reset)))
 }
 
-// Whether the chip has each dot that the row names; where not, the first that it has not.
-pub fn dots(text: &[u8], row: Row) -> Finding {
-    let holds = row.holds;
-    let count = rows::names(holds);
+// Whether the chip has each dot that the row names; where not, the first that it has not. None where a row can name none.
+pub fn dots(text: &[u8], row: Row) -> Option<Comparison> {
+    let count = rows::names(row.holds);
     for index in 0..count {
-        if let Named::Dot(line, sink) = rows::name_at(text, holds, index) {
-            if !map::is_dot(row.member, line, sink) {
-                return Finding::NoDot(line, sink);
+        if let Ok(Some(dot)) = rows::name_at(text, row.holds, index) {
+            if !map::is_dot(row.member, dot.line, dot.sink) {
+                return Some(Err(Difference::NoDot(dot)));
             }
         }
     }
-    if count == 0 {
-        Finding::Nothing
-    } else {
-        Finding::Agrees
-    }
+    if count == 0 { None } else { Some(Ok(())) }
 }
 
 // The type that the map has for a kind.
-fn access_of(kind: Kind) -> u8 {
+fn access_of(kind: Kind) -> Option<Access> {
     match kind {
-        Kind::FaultState => rows::READ,
-        Kind::Open => rows::READ,
-        Kind::Short => rows::READ,
-        Kind::Command => rows::WRITE,
-        Kind::Hole => rows::NONE,
-        _ => rows::READ_WRITE,
+        Kind::FaultState | Kind::Open | Kind::Short => Some(Access::Read),
+        Kind::Command => Some(Access::Write),
+        Kind::Hole => None,
+        Kind::Config | Kind::Group | Kind::Switch | Kind::Current | Kind::Pwm => {
+            Some(Access::ReadWrite)
+        }
     }
 }
 
 // An address of type RW is writable unless all its bits are reserved, and no other is writable.
-pub fn access(row: Row) -> Finding {
+pub fn access(row: Row) -> Comparison {
     let access = access_of(map::kind_at(row.address));
     let writable = map::writable(row.member, row.address);
-    let printed = row.access == rows::READ_WRITE && row.mask != 0xFF;
-    if row.access == access && printed == writable {
-        Finding::Agrees
-    } else {
-        Finding::Access(access, writable)
-    }
+    let printed = row.access == Access::ReadWrite && row.mask != 0xFF;
+    agrees_or(
+        access == Some(row.access) && printed == writable,
+        Difference::Access(access, writable),
+    )
 }
 
-// The map's reserved bits. Open and short bytes are laid out as the switch bytes from 043h on, and have theirs.
+// The map's reserved bits; all of them where the row stands before the bytes of its kind. Open and short bytes are laid out as the
+// switch bytes from 043h on, and have theirs.
 fn reserved_bits(row: Row) -> usize {
-    let holds = row.holds;
-    let address = match holds {
-        Holds::Open => before(row.address, 0x065 - 0x043),
-        Holds::Short => before(row.address, 0x086 - 0x043),
-        _ => row.address,
+    let before = match row.holds {
+        Holds::Open => 0x065 - 0x043,
+        Holds::Short => 0x086 - 0x043,
+        _ => 0,
     };
-    map::reserved(row.member, address) as usize
+    let address = row.address.checked_sub(before);
+    address.map_or(0xFF, |address| map::reserved(row.member, address) as usize)
 }
 
 // Of the fault state and the commands the map does not say which bits are reserved.
-pub fn reserved(row: Row) -> Finding {
-    let holds = row.holds;
-    if let Holds::Plain = holds {
-        if row.access != rows::READ_WRITE {
-            return Finding::Nothing;
-        }
+pub fn reserved(row: Row) -> Option<Comparison> {
+    if row.holds == Holds::Plain && row.access != Access::ReadWrite {
+        return None;
     }
     let reserved = reserved_bits(row);
-    if row.mask == reserved {
-        Finding::Agrees
-    } else {
-        Finding::Reserved(reserved)
-    }
+    Some(agrees_or(row.mask == reserved, Difference::Reserved(reserved)))
 }
 
 fn field_of(holds: Holds, index: usize) -> Field {
@@ -122,39 +100,27 @@ fn field_of(holds: Holds, index: usize) -> Field {
         Holds::Switch => Field::Switch,
         Holds::Open => Field::Open,
         Holds::Short => Field::Short,
-        Holds::Pwm => match index {
-            0 => Field::Pwm8,
-            _ => Field::Pwm16,
-        },
+        Holds::Pwm if index == 0 => Field::Pwm8,
+        Holds::Pwm => Field::Pwm16,
         // a current, since no other row names a dot
-        _ => Field::Current,
+        Holds::Current | Holds::Plain => Field::Current,
     }
 }
 
 pub fn is_at(place: Place, at: usize, bit: usize) -> bool {
-    match place {
-        Place::At { address, shift } => address == at && shift == bit,
-        Place::Absent => false,
-    }
+    place.address == at && place.shift == bit
 }
 
 // Whether the place is the row's at an index. A group has two bits; a high byte of 16 bits stands behind the low one.
 fn is_place(place: Place, row: Row, index: usize) -> bool {
-    let holds = row.holds;
-    match holds {
-        Holds::Group => is_at(place, row.address, index - index % 2),
-        Holds::Pwm => match index {
-            2 => is_at(place, before(row.address, 1), 0),
-            _ => is_at(place, row.address, 0),
-        },
+    match (row.holds, index) {
+        (Holds::Group, _) => is_at(place, row.address, index - index % 2),
+        (Holds::Pwm, 2) => row
+            .address
+            .checked_sub(1)
+            .is_some_and(|low| is_at(place, low, 0)),
+        (Holds::Pwm, _) => is_at(place, row.address, 0),
         _ => is_at(place, row.address, index),
-    }
-}
-
-fn no_dot(member: usize, number: usize) -> bool {
-    match map::dot_of(member, number) {
-        Dot::At { line: _, sink: _ } => false,
-        Dot::Absent => true,
     }
 }
 
@@ -162,43 +128,34 @@ fn no_dot(member: usize, number: usize) -> bool {
 // even offsets, high bytes odd ones.
 fn no_level(member: usize, offset: usize, index: usize) -> bool {
     if index == 0 {
-        return no_dot(member, offset);
+        return map::dot_of(member, offset).is_none();
     }
-    offset % 2 != index - 1 || no_dot(member, offset / 2)
+    offset % 2 != index - 1 || map::dot_of(member, offset / 2).is_none()
 }
 
 // Whether the map has no dot for the bit or byte at an index.
 fn is_unnamed(row: Row, index: usize) -> bool {
-    let holds = row.holds;
-    if let Holds::Pwm = holds {
-        return no_level(row.member, before(row.address, 0x200), index);
+    if row.holds == Holds::Pwm {
+        let offset = row.address.checked_sub(0x200);
+        return offset.is_none_or(|offset| no_level(row.member, offset, index));
     }
     index < 8 && (reserved_bits(row) >> index) % 2 == 1
 }
 
 // The bit or byte at an index, and what the row names for it.
-pub fn place(row: Row, index: usize, named: Named) -> Finding {
-    let Named::Dot(line, sink) = named else {
-        return if is_unnamed(row, index) {
-            Finding::Agrees
-        } else {
-            Finding::Unnamed(index)
-        };
+pub fn place(row: Row, index: usize, named: Result<Option<Dot>, Unknown>) -> Comparison {
+    let Ok(Some(dot)) = named else {
+        return agrees_or(is_unnamed(row, index), Difference::Unnamed(index));
     };
-    let holds = row.holds;
-    let place = map::place_of(field_of(holds, index), row.member, line, sink);
-    if is_place(place, row, index) {
-        return Finding::Agrees;
-    }
-    Finding::Place(index, line, sink, place)
+    let place = map::place_of(field_of(row.holds, index), row.member, dot.line, dot.sink);
+    agrees_or(
+        place.is_some_and(|place| is_place(place, row, index)),
+        Difference::Place(index, dot, place),
+    )
 }
 
 pub fn writable_addresses(member: usize) -> u64 {
-    let mut count = 0;
-    for address in 0..ADDRESSES {
-        if map::writable(member, address) {
-            count += 1;
-        }
-    }
-    count
+    (0..ADDRESSES)
+        .filter(|address| map::writable(member, *address))
+        .count() as u64
 }

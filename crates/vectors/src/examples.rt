@@ -1,16 +1,16 @@
 // The bench examples that concern the map.
 use crate::compare::is_at;
+use crate::report;
 use crate::tally::Count;
-use crate::{report, tally};
 use map::Field;
 
-fn shown(rt: &impl Print, count: Count, text: &[u8], agrees: bool) -> Count {
+fn shown(rt: &impl Print, count: &mut Count, text: &[u8], agrees: bool) {
     report::example(rt, text, agrees);
-    tally::compared(count, agrees)
+    count.compared(agrees);
 }
 
 fn begins(field: Field, member: usize, line: usize, sink: usize, at: usize) -> bool {
-    is_at(map::place_of(field, member, line, sink), at, 0)
+    map::place_of(field, member, line, sink).is_some_and(|place| is_at(place, at, 0))
 }
 
 pub fn run(rt: &impl Print) -> Count {
@@ -21,21 +21,32 @@ pub fn run(rt: &impl Print) -> Count {
     let sixteen = begins(Field::Pwm16, 0, 4, 1, 0x292) && map::writable(0, 0x293);
     let current = begins(Field::Current, 3, 2, 8, 0x12C);
     let absent = !map::is_dot(3, 2, 2);
-    let count = tally::nothing();
-    let count = shown(
+    let mut count = Count::default();
+    shown(
         rt,
-        count,
+        &mut count,
         b"LP5867 226 is writable, 16 bits of line 1, sink 1",
         writable,
     );
-    let count = shown(rt, count, b"LP5867 228 is a hole, not writable", hole);
-    let count = shown(rt, count, b"LP5860 line 8, sink 2: 8 bits at 292", eight);
-    let count = shown(
+    shown(rt, &mut count, b"LP5867 228 is a hole, not writable", hole);
+    shown(
         rt,
-        count,
+        &mut count,
+        b"LP5860 line 8, sink 2: 8 bits at 292",
+        eight,
+    );
+    shown(
+        rt,
+        &mut count,
         b"LP5860 line 4, sink 1: 16 bits at 292 and 293",
         sixteen,
     );
-    let count = shown(rt, count, b"LP5867 line 2, sink 8: current at 12C", current);
-    shown(rt, count, b"LP5867 line 2, sink 2 is no dot", absent)
+    shown(
+        rt,
+        &mut count,
+        b"LP5867 line 2, sink 8: current at 12C",
+        current,
+    );
+    shown(rt, &mut count, b"LP5867 line 2, sink 2 is no dot", absent);
+    count
 }

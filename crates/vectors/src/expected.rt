@@ -1,5 +1,6 @@
 // The disagreements that are expected: rows that name dots which their chip has not. docs/DECISIONS.md says how they were settled.
-use crate::compare::Finding;
+use crate::addresses::Marks;
+use crate::compare::Difference;
 use crate::{addresses, report};
 use rows::Row;
 
@@ -9,51 +10,36 @@ struct Expected {
     address: usize,
 }
 
-const ROWS: usize = 3;
-
-// The table, row by row.
-fn row_at(i: usize) -> Expected {
-    match i {
-        0 => Expected {
-            member: 2,
-            address: 0x04F,
-        },
-        1 => Expected {
-            member: 3,
-            address: 0x286,
-        },
-        _ => Expected {
-            member: 3,
-            address: 0x287,
-        },
-    }
-}
-
-fn has_row(member: usize, address: usize) -> bool {
-    for i in 0..ROWS {
-        let row = row_at(i);
-        if row.member == member && row.address == address {
-            return true;
-        }
-    }
-    false
-}
+static EXPECTED: [Expected; 3] = [
+    Expected {
+        member: 2,
+        address: 0x04F,
+    },
+    Expected {
+        member: 3,
+        address: 0x286,
+    },
+    Expected {
+        member: 3,
+        address: 0x287,
+    },
+];
 
 // Whether a row is expected to differ so.
-pub fn is_expected(row: Row, finding: Finding) -> bool {
-    match finding {
-        Finding::NoDot(_, _) => has_row(row.member, row.address),
+pub fn is_expected(row: Row, difference: Difference) -> bool {
+    match difference {
+        Difference::NoDot(_) => EXPECTED.iter().any(|expected| expected.member == row.member
+            && expected.address == row.address),
         _ => false,
     }
 }
 
 // Whether each of them was found. It prints a line for each that was not.
-fn all_found(rt: &impl Print, marks: &[u8]) -> bool {
+fn all_found(rt: &impl Print, marks: &Marks) -> bool {
     let mut all = true;
-    for i in 0..ROWS {
-        let row = row_at(i);
-        if !addresses::is_found(marks, row.member, row.address) {
-            report::not_found(rt, row.member, row.address);
+    for expected in &EXPECTED {
+        if !addresses::is_found(marks, expected.member, expected.address) {
+            report::not_found(rt, expected.member, expected.address);
             all = false;
         }
     }
@@ -61,6 +47,6 @@ fn all_found(rt: &impl Print, marks: &[u8]) -> bool {
 }
 
 // Whether each of them was found, and nothing else.
-pub fn met(rt: &impl Print, marks: &[u8], disagreements: u64, broken: u64) -> bool {
-    all_found(rt, marks) && disagreements == ROWS as u64 && broken == 0
+pub fn met(rt: &impl Print, marks: &Marks, disagreements: u64, broken: u64) -> bool {
+    all_found(rt, marks) && disagreements == EXPECTED.len() as u64 && broken == 0
 }

@@ -11,6 +11,7 @@ mod lines;
 mod report;
 mod tally;
 
+use addresses::Marks;
 use std::env::Env;
 use std::fs::Files;
 use std::io::Read;
@@ -27,127 +28,100 @@ const TOO_LONG: i32 = 36;
 
 const NOT_TEXT: i32 = 84;
 
-#[derive(Clone, Copy)]
+#[derive(Drop)]
 struct Reader {
     line: [u8; ROOM],
-    // ROOM + 1 where the line is longer than its room
-    length: usize,
+    // none where the line is longer than its room
+    length: Option<usize>,
     tally: Tally,
     // whether the last read moved a byte: none does at the file's end
     more: bool,
 }
 
-fn new_reader() -> Reader {
-    let line = [0u8; ROOM];
-    let members = [tally::nothing(); 5];
-    let tally = Tally {
-        members: members,
-        lines: 0,
-        broken: 0,
-    };
-    Reader {
-        line: line,
-        length: 0,
-        tally: tally,
-        more: true,
+impl Reader {
+    fn new() -> Reader {
+        Reader {
+            line: [0u8; ROOM],
+            length: Some(0),
+            tally: Tally::default(),
+            more: true,
+        }
     }
-}
 
-fn line_counted(
-    rt: &impl Print,
-    mut tally: Tally,
-    line: [u8; ROOM],
-    length: usize,
-    marks: &mut [u8],
-) -> Tally {
-    tally.lines = tally::plus(tally.lines, 1);
-    if length <= ROOM {
-        lines::counted(rt, tally, &line[0..length], marks)
-    } else {
-        lines::broken(rt, tally)
+    fn end_line(&mut self, rt: &impl Print, marks: &mut Marks) {
+        self.tally.lines = self.tally.lines.saturating_add(1);
+        match self.length.and_then(|length| self.line.get(..length)) {
+            Some(line) => lines::counted(rt, &mut self.tally, line, marks),
+            None => lines::broken(rt, &mut self.tally),
+        }
+        self.length = Some(0);
     }
-}
 
-fn line_ended(rt: &impl Print, mut reader: Reader, marks: &mut [u8]) -> Reader {
-    let line = reader.line;
-    let tally = reader.tally;
-    let tally = line_counted(rt, tally, line, reader.length, marks);
-    reader.tally = tally;
-    reader.length = 0;
-    reader
-}
+    fn take(&mut self, rt: &impl Print, byte: u8, marks: &mut Marks) {
+        if byte == b'\n' {
+            self.end_line(rt, marks);
+            return;
+        }
+        self.length = match self.length {
+            Some(length) if length < ROOM => {
+                self.line[length] = byte;
+                Some(length + 1)
+            }
+            _ => None,
+        };
+    }
 
-fn with_byte(rt: &impl Print, mut reader: Reader, byte: u8, marks: &mut [u8]) -> Reader {
-    if byte == b'\n' {
-        return line_ended(rt, reader, marks);
+    fn read_some(
+        &mut self,
+        rt: &impl Print,
+        file: &mut impl Read,
+        marks: &mut Marks,
+    ) -> io::Result<()> {
+        let mut buffer = [0u8; 512];
+        let n = file.read(&mut buffer)?;
+        for byte in &buffer[..n] {
+            self.take(rt, *byte, marks);
+        }
+        self.more = 0 < n;
+        Ok(())
     }
-    let length = reader.length;
-    if length < ROOM {
-        reader.line[length] = byte;
-    }
-    if length <= ROOM {
-        reader.length = length + 1;
-    }
-    reader
-}
-
-fn with_bytes(rt: &impl Print, mut reader: Reader, bytes: &[u8], marks: &mut [u8]) -> Reader {
-    for i in 0..bytes.len() {
-        reader = with_byte(rt, reader, bytes[i], marks);
-    }
-    reader
-}
-
-fn read_some(
-    rt: &impl Print,
-    reader: Reader,
-    file: &mut impl Read,
-    marks: &mut [u8],
-) -> io::Result<Reader> {
-    let mut buffer = [0u8; 512];
-    let n = file.read(&mut buffer)?;
-    let mut reader = with_bytes(rt, reader, &buffer[..n], marks);
-    reader.more = 0 < n;
-    Ok(reader)
 }
 
 // A proved loop has to end, and nothing says that a file does. So the loop counts its turns, up to a number that no run uses up.
-fn read_all(rt: &impl Print, file: &mut impl Read, marks: &mut [u8]) -> io::Result<Reader> {
-    let mut reader = new_reader();
+fn read_all(rt: &impl Print, file: &mut impl Read, marks: &mut Marks) -> io::Result<Tally> {
+    let mut reader = Reader::new();
     for _ in 0..u64::MAX {
         if !reader.more {
             break;
         }
-        reader = read_some(rt, reader, file, marks)?;
+        reader.read_some(rt, file, marks)?;
     }
     // the last line of the file may lack its line end
-    if 0 < reader.length {
-        reader = line_ended(rt, reader, marks);
+    if reader.length != Some(0) {
+        reader.end_line(rt, marks);
     }
-    Ok(reader)
+    Ok(reader.tally)
 }
 
 // A member's rows must be of all its writable addresses.
-fn member_counted(rt: &impl Print, member: usize, count: Count, marks: &[u8]) -> Count {
-    let count = addresses::counted(rt, count, member, marks);
+fn member_counted(rt: &impl Print, member: usize, count: &mut Count, marks: &Marks) {
+    addresses::counted(rt, count, member, marks);
     let writable = compare::writable_addresses(member);
     let agrees = count.writable == writable;
     if !agrees {
         report::missing(rt, member, count.writable, writable);
     }
-    let count = tally::compared(count, agrees);
-    report::member(rt, member, count);
-    count
+    count.compared(agrees);
+    report::member(rt, member, *count);
 }
 
-fn finish(rt: &impl Print, tally: Tally, marks: &[u8]) {
-    let members = tally.members;
-    let mut total = tally::nothing();
-    for member in 0..5 {
-        let count = member_counted(rt, member, members[member], marks);
-        total = tally::together(total, count);
+fn finish(rt: &impl Print, mut tally: Tally, marks: &Marks) {
+    let mut total = Count::default();
+    for (member, count) in tally.members.iter_mut().enumerate() {
+        member_counted(rt, member, count, marks);
+        total.add(*count);
     }
-    let total = tally::together(total, examples::run(rt));
+    total.add(examples::run(rt));
     report::total(rt, total, tally.broken);
     report::verdict(
         rt,
@@ -169,9 +143,9 @@ fn compare_file(rt: &(impl Files + Print), err: &impl Print, path: &[u8]) {
             return;
         }
     };
-    let mut marks = [0u8; addresses::MARKS];
+    let mut marks = addresses::unmarked();
     match read_all(rt, &mut file, &mut marks) {
-        Ok(reader) => finish(rt, reader.tally, &marks),
+        Ok(tally) => finish(rt, tally, &marks),
         Err(error) => report::failed(err, b"vectors: cannot read ", path, &error),
     }
 }

@@ -1,9 +1,9 @@
 // What the program prints, on standard output; that it cannot run, on standard error.
-use crate::compare::Finding;
+use crate::compare::Difference;
 use crate::tally::Count;
 use console::say;
 use map::Place;
-use rows::{Holds, Row};
+use rows::{Access, Dot, Holds, Row};
 use std::io;
 
 // A text, and a number behind it: in decimal, or its last two or three hexadecimal digits.
@@ -33,9 +33,9 @@ fn say_address(rt: &impl Print, text: &[u8], value: usize) {
     say_byte(rt, b"", value);
 }
 
-fn say_dot(rt: &impl Print, text: &[u8], line: usize, sink: usize) {
-    say_decimal(rt, text, line as u64);
-    say_decimal(rt, b".", sink as u64);
+fn say_dot(rt: &impl Print, text: &[u8], dot: Dot) {
+    say_decimal(rt, text, dot.line as u64);
+    say_decimal(rt, b".", dot.sink as u64);
 }
 
 fn say_member(rt: &impl Print, member: usize) {
@@ -48,12 +48,12 @@ fn say_member(rt: &impl Print, member: usize) {
     }
 }
 
-fn say_access(rt: &impl Print, access: u8) {
+fn say_access(rt: &impl Print, access: Option<Access>) {
     match access {
-        rows::READ_WRITE => say(rt, b"RW"),
-        rows::READ => say(rt, b"R"),
-        rows::WRITE => say(rt, b"W"),
-        _ => say(rt, b"none"),
+        Some(Access::ReadWrite) => say(rt, b"RW"),
+        Some(Access::Read) => say(rt, b"R"),
+        Some(Access::Write) => say(rt, b"W"),
+        None => say(rt, b"none"),
     }
 }
 
@@ -70,19 +70,19 @@ fn say_part(rt: &impl Print, holds: Holds, index: usize) {
     }
 }
 
-fn say_place(rt: &impl Print, place: Place) {
+fn say_place(rt: &impl Print, place: Option<Place>) {
     match place {
-        Place::At { address, shift } => {
+        Some(Place { address, shift }) => {
             say_address(rt, b", map has its first bit at ", address);
             say_decimal(rt, b" bit ", shift as u64);
         }
-        Place::Absent => say(rt, b", map has no such dot"),
+        None => say(rt, b", map has no such dot"),
     }
 }
 
-fn say_type(rt: &impl Print, row: Row, map: u8, writable: bool) {
+fn say_type(rt: &impl Print, row: Row, map: Option<Access>, writable: bool) {
     say(rt, b"type ");
-    say_access(rt, row.access);
+    say_access(rt, Some(row.access));
     say_byte(rt, b" with reserved bits ", row.mask);
     say(rt, b", map ");
     say_access(rt, map);
@@ -93,42 +93,37 @@ fn say_type(rt: &impl Print, row: Row, map: u8, writable: bool) {
     }
 }
 
-// In what row and map differ.
-fn say_finding(rt: &impl Print, row: Row, finding: Finding) {
-    let holds = row.holds;
-    match finding {
-        Finding::Nothing => {}
-        Finding::Agrees => {}
-        Finding::Twice => say(rt, b"in two rows"),
-        Finding::Default(map) => {
-            say_byte(rt, b"default ", row.default);
+fn say_difference(rt: &impl Print, row: Row, difference: Difference) {
+    match difference {
+        Difference::Twice => say(rt, b"in two rows"),
+        Difference::Default(map) => {
+            say_byte(rt, b"default ", row.default.unwrap_or(0));
             say_byte(rt, b", map ", map);
         }
-        Finding::NoDot(line, sink) => {
-            say_dot(rt, b"names a dot that the chip has not: ", line, sink);
-        }
-        Finding::Access(map, writable) => say_type(rt, row, map, writable),
-        Finding::Reserved(map) => {
+        Difference::NoDot(dot) => say_dot(rt, b"names a dot that the chip has not: ", dot),
+        Difference::Access(map, writable) => say_type(rt, row, map, writable),
+        Difference::Reserved(map) => {
             say_byte(rt, b"reserved bits ", row.mask);
             say_byte(rt, b", map ", map);
         }
-        Finding::Place(index, line, sink, map) => {
-            say_part(rt, holds, index);
-            say_dot(rt, b" is for dot ", line, sink);
+        Difference::Place(index, dot, map) => {
+            say_part(rt, row.holds, index);
+            say_dot(rt, b" is for dot ", dot);
             say_place(rt, map);
         }
-        Finding::Unnamed(index) => {
-            say_part(rt, holds, index);
+        Difference::Unnamed(index) => {
+            say_part(rt, row.holds, index);
             say(rt, b" is for no dot, map has one");
         }
     }
 }
 
-pub fn difference(rt: &impl Print, row: Row, finding: Finding, expected: bool) {
+// In what row and map differ.
+pub fn difference(rt: &impl Print, row: Row, difference: Difference, expected: bool) {
     say_member(rt, row.member);
     say_address(rt, b" ", row.address);
     say(rt, b": ");
-    say_finding(rt, row, finding);
+    say_difference(rt, row, difference);
     if expected {
         say(rt, b" (expected)");
     }
