@@ -11,7 +11,8 @@ function hold(what) {
     held = 1
 }
 
-# ---- The sources: `owner` says of each line which item it belongs to, `fn crate::module::name`, `const NAME` or `type`.
+# ---- The sources: `owner` says of each line which item it belongs to, `fn crate::module::name`, `const NAME` or `type`; a method of an `impl`
+# of the type T is `fn crate::module::T::name`.
 
 # src/lib.rt has crate::name, src/a/b.rt has crate::a::b::name
 function path_of(file, name) {
@@ -48,10 +49,19 @@ kind == "source" {
         if (word[1] == "const" || word[1] == "static") item = "const " word[2]
         if (item ~ /^const / && declared[item]++) hold("two constants are called " word[2] ", and the judge cannot tell them apart")
         in_body = 0
+        of_impl = word[1] == "impl" && $0 !~ / for / ? word[2] : ""
+    }
+    if (of_impl != "" && $0 ~ /^    (pub(\([a-z]+\))? )?fn /) {
+        start = $0
+        sub(/^    (pub(\([a-z]+\))? )?fn /, "", start)
+        sub(/[^A-Za-z0-9_].*$/, "", start)
+        item = "fn " path_of(file, of_impl "::" start)
+        in_body = 0
     }
     owner[file, FNR] = item
     body[file, FNR] = in_body
-    if (item ~ /^fn / && $0 ~ /^([^ ].*[) ])?\{$/) in_body = 1
+    if (item ~ /^fn / && $0 ~ (of_impl == "" ? "^([^ ].*[) ])?\\{$" : "^    ([^ ].*[) ])?\\{$")) in_body = 1
+    if (of_impl != "" && $0 ~ /^    \}/) item = "type"
     code = $0
     sub(/ *\/\/.*$/, "", code)
     if (code ~ /^\}/ || code ~ /^[^ ].*\}$/ || (item !~ /^fn / && code ~ /;$/)) item = ""
@@ -170,7 +180,7 @@ kind == "edit" && /^# wrong / {
         next
     }
     of_functions = 1
-    if ($0 !~ /^# wrong [A-Za-z0-9_]+:( [a-z0-9_:]+)+$/) hold("not of the form '# wrong LABEL: FN ..' or '# wrong LABEL: File.law ..': " $0)
+    if ($0 !~ /^# wrong [A-Za-z0-9_]+:( [a-z0-9_]+::[A-Za-z0-9_:]+)+$/) hold("not of the form '# wrong LABEL: FN ..' or '# wrong LABEL: File.law ..': " $0)
     for (i = 4; i <= NF; i++) {
         if ($i in named) hold($i " is wrong twice, " label[named[$i]] " and " label[version])
         named[$i] = version
