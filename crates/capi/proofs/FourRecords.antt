@@ -2,82 +2,47 @@
 -- Assumes nothing.
 use mathlib.Core.Path.{◌≡◌, refl, sym, ap, ap₂, ◌∙◌, subst}
 use mathlib.Core.Bool.{Bool, true, false, cond, ◌&&◌}
-use mathlib.Core.List.{List, [], ◌++◌, append_assoc, append-nil}
-use Prim.Native.Nat.{ℕ, zero, suc, ◌+◌, ◌-◌, ◌*◌, ◌<◌, ◌^◌}
-use native.Mathlib.Nat.{add-zero, add_assoc}
+use mathlib.Core.List.{List, [], ◌∷◌, ◌++◌, append_assoc, append-nil}
+use Prim.Native.Nat.{ℕ, zero, suc, ◌+◌, ◌-◌, ◌*◌, ◌<◌, ◌≤◌, ◌^◌}
+use native.Mathlib.Nat.{add_assoc}
+use native.Mathlib.Numerals.{add-one}
 use native.Mathlib.Omega.{arith}
 use lib.Dec.{leb}
 use lib.ListN.{length, get_or, take, drop, length-append, length-drop}
-use lib.Seq.{drop-drop, get_or-drop, take_at, drop_at, take-append-add, drop-append-add}
+use lib.Seq.{drop-drop, take_at, drop_at, take-append-add, drop-append-add}
 use Rattle.map.specs.declared.refusals.Refusal.TheVariants.{BufferShort, Unsound, RoundLimit, NotItsPlace}
-use Rattle.host.specs.declared.Header.{Header}
+use Rattle.burst.specs.Burst.{Burst}
 use Rattle.host.specs.declared.Record.{Record}
-use Rattle.host.specs.Record.{header_of, record_of}
-use Rattle.update.specs.declared.ListAnswer.{ListAnswer}
-use Rattle.update.specs.declared.ListAnswer.TheVariants.{Listed, Refused}
-use Rattle.update.specs.Update.{is_listed}
-use Rattle.rounds.specs.declared.Headers.{Headers}
-use Rattle.rounds.specs.declared.Present.{Present}
-use Rattle.rounds.specs.declared.Records.{Records}
-use Rattle.rounds.specs.Round.{at_place, present_at, record_at, takes, part_at, count_all, bytes_all, round_size, least_limit, most_limit, every_place, present_sound, present_placed, round_parts, round_answer, round_buffer, round_record, round_of, present_by}
+use Rattle.writes.specs.WrittenLaws.{stored_length}
+use Rattle.host.specs.Record.{record_of}
+use Rattle.update.specs.Update.{ListAnswer, listed, refused, is_listed}
+use Rattle.rounds.specs.Round.{present_at, record_at, takes, part_at, count_all, bytes_all, round_size, least_limit, most_limit, every_place, present_sound, present_placed, round_parts, round_answer, round_buffer, round_record, round_of, present_by}
 use Rattle.rounds.proofs.ListLaws.{few_parts}
 use Rattle.rounds.proofs.DealLaws.{round_takes, round_bytes, parts_ready}
-use Rattle.rounds.specs.Dealing.{records_of, ImagesAfter}
-use Rattle.capi.specs.Capi.{header_in, marks_at, settings_at, image_at, record_in, header_bytes, record_bytes, record_size, put_image, place_at, record_from, records_in, headers_in, records_bytes, kept_at, kept_last, kept_all, round_sized, round_answer_by, Fits}
-use Rattle.capi.specs.CapiLaws.{Whole, record_length, records_round}
-use Rattle.capi.proofs.InPlace.{part_length}
+use Rattle.rounds.specs.Dealing.{ImagesAfter}
+use Rattle.capi.specs.Capi.{settings_at, image_at, record_in, header_bytes, record_bytes, record_size, put_image, place_at, record_from, records_in, records_bytes, kept_at, kept_to, round_sized, round_answer_by, Fits}
+use Rattle.capi.specs.CapiLaws.{Whole, record_first, record_back, record_length, records_round}
+use Rattle.capi.proofs.InPlace.{put_part, part_length}
 
 -- ---- what is read
 
-pub header_read : (bytes : List ℕ) (at marks : ℕ) → marks ≡ get_or bytes (at + marks_at) 0 →
-    header_of (get_or bytes at 0) (get_or bytes (at + 1) 0) (get_or bytes (at + 2) 0) marks ≡ header_in (drop at bytes)
-unfolding header_in
-header_read bytes at marks e = rw (e, get_or-drop at bytes 0 0, get_or-drop at bytes 1 0, get_or-drop at bytes 2 0, get_or-drop at bytes 3 0, add-zero at) refl
-
-pub headers_read : (bytes : List ℕ) (a b c d : Header) → a ≡ header_in (drop (place_at 0) bytes) → b ≡ header_in (drop (place_at 1) bytes) →
-    c ≡ header_in (drop (place_at 2) bytes) → d ≡ header_in (drop (place_at 3) bytes) →
-    record { first = a; second = b; third = c; fourth = d } ≡ headers_in bytes
-headers_read bytes a b c d ea eb ec ed = rw (ea, eb, ec, ed) refl
-
--- a record by its parts
-part_record : (bytes : List ℕ) (at : ℕ) →
-    record_of (header_in (drop at bytes)) (take 908 (drop (at + settings_at) bytes)) (take 908 (drop (at + image_at) bytes)) ≡ record_in (drop at bytes)
+-- a record is held by its own bytes
+record_alone : (bytes : List ℕ) → record_size ≤ length bytes → record_in (take record_size bytes) ≡ record_in bytes
 unfolding record_in
-part_record bytes at =
-    ap₂ (λ (s i : List ℕ). record_of (header_in (drop at bytes)) (take 908 s) (take 908 i))
-    (sym (drop-drop settings_at at bytes)) (sym (drop-drop image_at at bytes))
+record_alone bytes h =
+    ap record_in (sym (record_first bytes h))
+    ∙ record_back (record_in bytes) (part_length settings_at 908 bytes (omega arith)) (part_length image_at 908 bytes (omega arith))
 
-module _ (bytes : List ℕ) where
-  abbrev part : ℕ → List ℕ
-  part at = take 908 (drop at bytes)
+pub record_read : (bytes : List ℕ) (k : ℕ) → length bytes ≡ place_at 4 → k < 4 →
+    record_in (take (place_at k + record_size - place_at k) (drop (place_at k) bytes)) ≡ record_from bytes k
+record_read bytes k h l =
+    let size : place_at k + record_size - place_at k ≡ record_size = omega arith in
+    ap (λ (n : ℕ). record_in (take n (drop (place_at k) bytes))) size
+    ∙ record_alone (drop (place_at k) bytes) (omega (arith, length-drop (place_at k) bytes))
 
-  -- four records by theirs
-  abbrev in_parts : Headers → ℕ → Record
-  in_parts h =
-      records_of h (part (place_at 0 + settings_at)) (part (place_at 0 + image_at)) (part (place_at 1 + settings_at)) (part (place_at 1 + image_at))
-      (part (place_at 2 + settings_at)) (part (place_at 2 + image_at)) (part (place_at 3 + settings_at)) (part (place_at 3 + image_at))
-
-  four : (a b c d w x y z : Record) → a ≡ w → b ≡ x → c ≡ y → d ≡ z → at_place a b c d ≡ at_place w x y z
-  four a b c d w x y z ea eb ec ed = rw (ea, eb, ec, ed) refl
-
-  parts_are : in_parts (headers_in bytes) ≡ record_at (records_in bytes)
-  parts_are =
-      four _ _ _ _ _ _ _ _ (part_record bytes (place_at 0)) (part_record bytes (place_at 1)) (part_record bytes (place_at 2)) (part_record bytes (place_at 3))
-
-  -- what a round on the parts answers and leaves
-  abbrev Sent : Present → ℕ → List ℕ → ListAnswer → List ℕ → (ℕ → List ℕ) → (ℕ → List ℕ) → (ℕ → Record) → Type 0
-  Sent present limit buffer answer after copies images records =
-      (answer ≡ round_answer (present_at present) records limit (length buffer))
-      × ((after ≡ round_buffer (present_at present) records limit buffer)
-      × ImagesAfter (present_at present) records limit (length buffer) copies images)
-
-  -- is that of the round on the records
-  pub sent_of : (h : Headers) → h ≡ headers_in bytes → (present : Present) (limit : ℕ) (buffer : List ℕ) (answer : ListAnswer) (after : List ℕ)
-      (copies images : ℕ → List ℕ) → Sent present limit buffer answer after copies images (in_parts h) →
-      Sent present limit buffer answer after copies images (record_at (records_in bytes))
-  sent_of h e present limit buffer answer after copies images s =
-      subst (Sent present limit buffer answer after copies images) parts_are
-      (subst (λ (x : Headers). Sent present limit buffer answer after copies images (in_parts x)) e s)
+pub records_read : (bytes : List ℕ) (a b c d : Record) → a ≡ record_from bytes 0 → b ≡ record_from bytes 1 → c ≡ record_from bytes 2 → d ≡ record_from bytes 3 →
+    a ∷ b ∷ c ∷ d ∷ [] ≡ records_in bytes
+records_read bytes a b c d ea eb ec ed = rw (ea, eb, ec, ed) refl
 
 -- ---- what is put back
 
@@ -125,111 +90,72 @@ kept_behind : (b : Bool) (x l : List ℕ) (n at : ℕ) (image : List ℕ) → le
 kept_behind true x l n at image e = subst (λ (k : ℕ). put_image (x ++ l) (k + at) image ≡ x ++ put_image l at image) e (put_behind x l at image)
 kept_behind false x l n at image e = refl
 
-module _ (listed : Bool) (p : Present) (r : Records) (w : (k : ℕ) → k < 4 → Whole (record_at r k)) (n0 n1 n2 n3 : List ℕ)
-    (e : (length n0 ≡ 908) × ((length n1 ≡ 908) × ((length n2 ≡ 908) × (length n3 ≡ 908)))) where
-  abbrev y0 : List ℕ
-  y0 = record_bytes (kept_record (listed && p.first) r.first n0)
+module _ (p : List Bool) (r : List Record) (w : (k : ℕ) → k < 4 → Whole (record_at r k)) (images : List (List ℕ))
+    (e : (k : ℕ) → k < 4 → length (get_or images k []) ≡ 908) where
+  abbrev y : ℕ → List ℕ
+  y k = record_bytes (kept_record (present_at p k) (record_at r k) (get_or images k []))
 
-  abbrev y1 : List ℕ
-  y1 = record_bytes (kept_record (listed && p.second) r.second n1)
+  y_length : (k : ℕ) → k < 4 → length (y k) ≡ record_size
+  y_length k l = kept_whole (present_at p k) (record_at r k) (get_or images k []) (w k l) (e k l)
 
-  abbrev y2 : List ℕ
-  y2 = record_bytes (kept_record (listed && p.third) r.third n2)
-
-  abbrev y3 : List ℕ
-  y3 = record_bytes (kept_record (listed && p.fourth) r.fourth n3)
-
-  h0 : length y0 ≡ record_size
-  h0 = kept_whole (listed && p.first) r.first n0 (w 0 (omega arith)) e.0
-
-  h1 : length y1 ≡ record_size
-  h1 = kept_whole (listed && p.second) r.second n1 (w 1 (omega arith)) e.1.0
-
-  h2 : length y2 ≡ record_size
-  h2 = kept_whole (listed && p.third) r.third n2 (w 2 (omega arith)) e.1.1.0
-
-  all_kept : kept_all listed p (records_bytes r) n0 n1 n2 n3 ≡ y0 ++ (y1 ++ (y2 ++ y3))
+  all_kept : kept_to 4 p (records_bytes r) images ≡ y 0 ++ (y 1 ++ (y 2 ++ y 3))
+  unfolding kept_to
   all_kept = first ∙ second ∙ third ∙ fourth
     where
-      x1 : List ℕ
-      x1 = record_bytes r.second
+      x : ℕ → List ℕ
+      x k = record_bytes (record_at r k)
 
-      x2 : List ℕ
-      x2 = record_bytes r.third
+      at : ℕ → List ℕ → List ℕ
+      at k l = kept_at (present_at p k) l (place_at k + image_at) (get_or images k [])
 
-      x3 : List ℕ
-      x3 = record_bytes r.fourth
+      first : at 3 (at 2 (at 1 (at 0 (records_bytes r)))) ≡ at 3 (at 2 (at 1 (y 0 ++ (x 1 ++ (x 2 ++ x 3)))))
+      first = ap (λ (l : List ℕ). at 3 (at 2 (at 1 l))) (kept_first (present_at p 0) (record_at r 0) (w 0 (omega arith)) (get_or images 0 []) (x 1 ++ (x 2 ++ x 3)))
 
-      second_of : List ℕ → List ℕ
-      second_of l = kept_at listed p.second l (place_at 1 + image_at) n1
-
-      third_of : List ℕ → List ℕ
-      third_of l = kept_at listed p.third l (place_at 2 + image_at) n2
-
-      fourth_of : List ℕ → List ℕ
-      fourth_of l = kept_at listed p.fourth l (place_at 3 + image_at) n3
-
-      first : kept_all listed p (records_bytes r) n0 n1 n2 n3 ≡ fourth_of (third_of (second_of (y0 ++ (x1 ++ (x2 ++ x3)))))
-      first = ap (λ (l : List ℕ). fourth_of (third_of (second_of l))) (kept_first (listed && p.first) r.first (w 0 (omega arith)) n0 (x1 ++ (x2 ++ x3)))
-
-      second : fourth_of (third_of (second_of (y0 ++ (x1 ++ (x2 ++ x3))))) ≡ fourth_of (third_of (y0 ++ (y1 ++ (x2 ++ x3))))
+      second : at 3 (at 2 (at 1 (y 0 ++ (x 1 ++ (x 2 ++ x 3))))) ≡ at 3 (at 2 (y 0 ++ (y 1 ++ (x 2 ++ x 3))))
       second =
-          ap (λ (l : List ℕ). fourth_of (third_of l))
-          (kept_behind (listed && p.second) y0 (x1 ++ (x2 ++ x3)) record_size image_at n1 h0
-          ∙ ap (λ (l : List ℕ). y0 ++ l) (kept_first (listed && p.second) r.second (w 1 (omega arith)) n1 (x2 ++ x3)))
+          ap (λ (l : List ℕ). at 3 (at 2 l))
+          (kept_behind (present_at p 1) (y 0) (x 1 ++ (x 2 ++ x 3)) record_size image_at (get_or images 1 []) (y_length 0 (omega arith))
+          ∙ ap (λ (l : List ℕ). y 0 ++ l) (kept_first (present_at p 1) (record_at r 1) (w 1 (omega arith)) (get_or images 1 []) (x 2 ++ x 3)))
 
-      third : fourth_of (third_of (y0 ++ (y1 ++ (x2 ++ x3)))) ≡ fourth_of (y0 ++ (y1 ++ (y2 ++ x3)))
+      third : at 3 (at 2 (y 0 ++ (y 1 ++ (x 2 ++ x 3)))) ≡ at 3 (y 0 ++ (y 1 ++ (y 2 ++ x 3)))
       third =
-          ap fourth_of
-          (kept_behind (listed && p.third) y0 (y1 ++ (x2 ++ x3)) record_size (record_size + image_at) n2 h0
-          ∙ ap (λ (l : List ℕ). y0 ++ l)
-          (kept_behind (listed && p.third) y1 (x2 ++ x3) record_size image_at n2 h1
-          ∙ ap (λ (l : List ℕ). y1 ++ l) (kept_first (listed && p.third) r.third (w 2 (omega arith)) n2 x3)))
+          ap (at 3)
+          (kept_behind (present_at p 2) (y 0) (y 1 ++ (x 2 ++ x 3)) record_size (record_size + image_at) (get_or images 2 []) (y_length 0 (omega arith))
+          ∙ ap (λ (l : List ℕ). y 0 ++ l)
+          (kept_behind (present_at p 2) (y 1) (x 2 ++ x 3) record_size image_at (get_or images 2 []) (y_length 1 (omega arith))
+          ∙ ap (λ (l : List ℕ). y 1 ++ l) (kept_first (present_at p 2) (record_at r 2) (w 2 (omega arith)) (get_or images 2 []) (x 3))))
 
-      fourth : fourth_of (y0 ++ (y1 ++ (y2 ++ x3))) ≡ y0 ++ (y1 ++ (y2 ++ y3))
+      fourth : at 3 (y 0 ++ (y 1 ++ (y 2 ++ x 3))) ≡ y 0 ++ (y 1 ++ (y 2 ++ y 3))
       fourth =
-          kept_behind (listed && p.fourth) y0 (y1 ++ (y2 ++ x3)) record_size (record_size * 2 + image_at) n3 h0
-          ∙ ap (λ (l : List ℕ). y0 ++ l)
-          (kept_behind (listed && p.fourth) y1 (y2 ++ x3) record_size (record_size + image_at) n3 h1
-          ∙ ap (λ (l : List ℕ). y1 ++ l)
-          (kept_behind (listed && p.fourth) y2 x3 record_size image_at n3 h2
-          ∙ ap (λ (l : List ℕ). y2 ++ l) (kept_last_lem (listed && p.fourth) r.fourth (w 3 (omega arith)) n3)))
+          kept_behind (present_at p 3) (y 0) (y 1 ++ (y 2 ++ x 3)) record_size (record_size * 2 + image_at) (get_or images 3 []) (y_length 0 (omega arith))
+          ∙ ap (λ (l : List ℕ). y 0 ++ l)
+          (kept_behind (present_at p 3) (y 1) (y 2 ++ x 3) record_size (record_size + image_at) (get_or images 3 []) (y_length 1 (omega arith))
+          ∙ ap (λ (l : List ℕ). y 1 ++ l)
+          (kept_behind (present_at p 3) (y 2) (x 3) record_size image_at (get_or images 3 []) (y_length 2 (omega arith))
+          ∙ ap (λ (l : List ℕ). y 2 ++ l) (kept_last_lem (present_at p 3) (record_at r 3) (w 3 (omega arith)) (get_or images 3 []))))
 
--- ---- each image is put where its record is present
+-- ---- a turn of the loop that puts the images back
 
-module _ (listed present : Bool) (bytes image : List ℕ) (at : ℕ) where
-  pub kept_present : (new : List ℕ) → present ≡ true → new ≡ cond listed (put_image bytes at image) bytes → new ≡ kept_at listed present bytes at image
-  kept_present new p e = e ∙ rw p (go listed)
-    where
-      go : (b : Bool) → cond b (put_image bytes at image) bytes ≡ cond (b && true) (put_image bytes at image) bytes
-      go true = refl
-      go false = refl
+module _ (p : List Bool) (images : List (List ℕ)) (old bytes : List ℕ) (k : ℕ) (here : bytes ≡ kept_to k p old images) where
+  pub kept_present : (at n : ℕ) (image new : List ℕ) → present_at p k ≡ true → at ≡ place_at k + image_at → n ≡ 908 → image ≡ get_or images k [] →
+      new ≡ put_part at n bytes image → new ≡ kept_to (k + 1) p old images
+  unfolding kept_to
+  kept_present at n image new q ea en ei e =
+      e ∙ rw (ea, en, ei, add-one, q, ← here)
+      (ap (λ (l : List ℕ). take (place_at k + image_at) bytes ++ (get_or images k [] ++ l)) (drop-drop 908 (place_at k + image_at) bytes))
 
-  pub kept_absent : present ≡ false → bytes ≡ kept_at listed present bytes at image
-  kept_absent p = rw p (go listed)
-    where
-      go : (b : Bool) → bytes ≡ cond (b && false) (put_image bytes at image) bytes
-      go true = refl
-      go false = refl
-
-pub kept_last_two : (listed : Bool) (p : Present) (bytes n2 n3 three four : List ℕ) → three ≡ kept_at listed p.third bytes (place_at 2 + image_at) n2 →
-    four ≡ kept_at listed p.fourth three (place_at 3 + image_at) n3 → four ≡ kept_last listed p bytes n2 n3
-kept_last_two listed p bytes n2 n3 three four e3 e4 = e4 ∙ ap (λ (l : List ℕ). kept_at listed p.fourth l (place_at 3 + image_at) n3) e3
-
-pub kept_each : (listed : Bool) (p : Present) (bytes n0 n1 n2 n3 one two four : List ℕ) →
-    one ≡ kept_at listed p.first bytes (place_at 0 + image_at) n0 → two ≡ kept_at listed p.second one (place_at 1 + image_at) n1 →
-    four ≡ kept_last listed p two n2 n3 → four ≡ kept_all listed p bytes n0 n1 n2 n3
-kept_each listed p bytes n0 n1 n2 n3 one two four e1 e2 e4 =
-    e4 ∙ ap (λ (l : List ℕ). kept_last listed p l n2 n3) (e2 ∙ ap (λ (l : List ℕ). kept_at listed p.second l (place_at 1 + image_at) n1) e1)
+  pub kept_absent : present_at p k ≡ false → bytes ≡ kept_to (k + 1) p old images
+  unfolding kept_to
+  kept_absent q = rw (add-one, q) here
 
 -- ---- the round
 
 -- a record that takes the image which the round leaves of it is the record which the round leaves
-image_taken : (present : ℕ → Bool) (records : ℕ → Record) (limit size k : ℕ) (answer : ListAnswer) (image : List ℕ) →
-    answer ≡ round_answer present records limit size → image ≡ (round_record present records limit size k).image →
-    kept_record (is_listed answer && present k) (records k) image ≡ round_record present records limit size k
+image_taken : (present : ℕ → Bool) (records : ℕ → Record) (limit size k : ℕ) (image : List ℕ) →
+    is_listed (round_answer present records limit size) ≡ true → image ≡ (round_record present records limit size k).image →
+    kept_record (present k) (records k) image ≡ round_record present records limit size k
 unfolding round_record
-image_taken present records limit size k answer image ea ei = rw (ea, ei) (go (is_listed (round_answer present records limit size) && present k))
+image_taken present records limit size k image el ei = rw (ei, el) (go (present k))
   where
     next : Record
     next = takes (records k) (part_at (round_parts present records limit) k)
@@ -257,50 +183,69 @@ module _ (bytes : List ℕ) (h : length bytes ≡ place_at 4) where
   unfolding record_in
   copy_is k = ap (take 908) (sym (drop-drop image_at (place_at k) bytes))
 
-  module _ (present : Present) (limit : ℕ) (buffer after : List ℕ) (answer : ListAnswer) (m0 m1 m2 m3 n0 n1 n2 n3 new : List ℕ)
-      (c0 : m0 ≡ take 908 (drop (place_at 0 + image_at) bytes)) (c1 : m1 ≡ take 908 (drop (place_at 1 + image_at) bytes))
-      (c2 : m2 ≡ take 908 (drop (place_at 2 + image_at) bytes)) (c3 : m3 ≡ take 908 (drop (place_at 3 + image_at) bytes))
-      (sends : (answer ≡ round_answer (present_at present) (record_at (records_in bytes)) limit (length buffer))
-      × ((after ≡ round_buffer (present_at present) (record_at (records_in bytes)) limit buffer)
-      × (ImagesAfter (present_at present) (record_at (records_in bytes)) limit (length buffer) (at_place m0 m1 m2 m3) (at_place n0 n1 n2 n3)
-      × ((length n0 ≡ length m0) × ((length n1 ≡ length m1) × ((length n2 ≡ length m2) × (length n3 ≡ length m3)))))))
-      (puts : new ≡ kept_all (is_listed answer) present bytes n0 n1 n2 n3) where
+  module _ (present : List Bool) (limit : ℕ) (buffer after : List ℕ) (answer : ListAnswer) (c0 c1 c2 c3 : List ℕ) (images : List (List ℕ))
+      (e0 : c0 ≡ take 908 (drop (place_at 0 + image_at) bytes)) (e1 : c1 ≡ take 908 (drop (place_at 1 + image_at) bytes))
+      (e2 : c2 ≡ take 908 (drop (place_at 2 + image_at) bytes)) (e3 : c3 ≡ take 908 (drop (place_at 3 + image_at) bytes))
+      (lent : List Record) (read : lent ≡ records_in bytes)
+      (answers : answer ≡ round_answer (present_at present) (record_at lent) limit (length buffer))
+      (sends : after ≡ round_buffer (present_at present) (record_at lent) limit buffer)
+      (takes_parts : ImagesAfter (present_at present) (record_at lent) limit (length buffer) (c0 ∷ c1 ∷ c2 ∷ c3 ∷ []) images) where
     abbrev left : ℕ → Record
     left k = round_record (present_at present) (record_at (records_in bytes)) limit (length buffer) k
 
-    sized : (k : ℕ) → k < 4 → (m n : List ℕ) → m ≡ take 908 (drop (place_at k + image_at) bytes) → length n ≡ length m → length n ≡ 908
-    sized k l m n c e = e ∙ ap length (c ∙ copy_is k) ∙ (whole k l).1
+    answer_is : answer ≡ round_answer (present_at present) (record_at (records_in bytes)) limit (length buffer)
+    answer_is = answers ∙ ap (λ (r : List Record). round_answer (present_at present) (record_at r) limit (length buffer)) read
 
-    lengths : (length n0 ≡ 908) × ((length n1 ≡ 908) × ((length n2 ≡ 908) × (length n3 ≡ 908)))
-    lengths =
-        let e = sends.1.1.1 in
-        (sized 0 (omega arith) m0 n0 c0 e.0, (sized 1 (omega arith) m1 n1 c1 e.1.0, (sized 2 (omega arith) m2 n2 c2 e.1.1.0, sized 3 (omega arith) m3 n3 c3 e.1.1.1)))
+    copies : (k : ℕ) → k < 4 → get_or (c0 ∷ c1 ∷ c2 ∷ c3 ∷ []) k [] ≡ (record_at (records_in bytes) k).image
+    copies zero l = e0 ∙ copy_is 0
+    copies (suc zero) l = e1 ∙ copy_is 1
+    copies (suc (suc zero)) l = e2 ∙ copy_is 2
+    copies (suc (suc (suc zero))) l = e3 ∙ copy_is 3
+    copies (suc (suc (suc (suc k)))) l = absurd (omega arith)
 
-    taken : (k : ℕ) → k < 4 → at_place m0 m1 m2 m3 k ≡ (record_at (records_in bytes) k).image →
-        kept_record (is_listed answer && present_at present k) (record_at (records_in bytes) k) (at_place n0 n1 n2 n3 k) ≡ left k
-    taken k l c = image_taken (present_at present) (record_at (records_in bytes)) limit (length buffer) k answer (at_place n0 n1 n2 n3 k) sends.0 (sends.1.1.0 k l c)
+    image_is : (k : ℕ) → k < 4 → get_or images k [] ≡ (left k).image
+    image_is k l =
+        subst (λ (r : List Record). ImagesAfter (present_at present) (record_at r) limit (length buffer) (c0 ∷ c1 ∷ c2 ∷ c3 ∷ []) images) read takes_parts
+        k l (copies k l)
 
-    all_taken : kept_all (is_listed answer) present bytes n0 n1 n2 n3 ≡ records_bytes (record { first = left 0; second = left 1; third = left 2; fourth = left 3 })
-    all_taken =
-        ap (λ (l : List ℕ). kept_all (is_listed answer) present l n0 n1 n2 n3) (sym (records_round bytes h))
-        ∙ all_kept (is_listed answer) present (records_in bytes) whole_at n0 n1 n2 n3 lengths
-        ∙ rw (
-          taken 0 (omega arith) (c0 ∙ copy_is 0),
-          taken 1 (omega arith) (c1 ∙ copy_is 1),
-          taken 2 (omega arith) (c2 ∙ copy_is 2),
-          taken 3 (omega arith) (c3 ∙ copy_is 3),
-        ) refl
-
-    pub round_done : (answer ≡ (round_of (records_in bytes) present limit (length buffer)).answer)
-        × ((new ≡ cond (is_listed answer) (records_bytes (round_of (records_in bytes) present limit (length buffer)).records) bytes)
-        × (after ≡ round_buffer (present_at present) (record_at (records_in bytes)) limit buffer))
-    unfolding round_of
-    round_done = (sends.0, (puts ∙ go (is_listed answer) all_taken, sends.1.0))
+    sized : (k : ℕ) → k < 4 → length (get_or images k []) ≡ 908
+    unfolding round_record
+    sized k l = ap length (image_is k l) ∙ go (is_listed (round_answer (present_at present) (record_at (records_in bytes)) limit (length buffer)) && present_at present k)
       where
-        go : (b : Bool) → kept_all b present bytes n0 n1 n2 n3 ≡ records_bytes (record { first = left 0; second = left 1; third = left 2; fourth = left 3 }) →
-            kept_all b present bytes n0 n1 n2 n3 ≡ cond b (records_bytes (record { first = left 0; second = left 1; third = left 2; fourth = left 3 })) bytes
-        go true e = e
-        go false e = refl
+        r : Record
+        r = record_at (records_in bytes) k
+
+        xs : List Burst
+        xs = part_at (round_parts (present_at present) (record_at (records_in bytes)) limit) k
+
+        go : (b : Bool) → length (cond b (takes r xs) r).image ≡ 908
+        go true = stored_length xs r.image ∙ (whole_at k l).1
+        go false = (whole_at k l).1
+
+    module _ (listed : is_listed answer ≡ true) where
+      taken : (k : ℕ) → k < 4 → kept_record (present_at present k) (record_at (records_in bytes) k) (get_or images k []) ≡ left k
+      taken k l = image_taken (present_at present) (record_at (records_in bytes)) limit (length buffer) k (get_or images k []) (ap is_listed (sym answer_is) ∙ listed) (image_is k l)
+
+      all_taken : kept_to 4 present bytes images ≡ records_bytes (left 0 ∷ left 1 ∷ left 2 ∷ left 3 ∷ [])
+      all_taken =
+          ap (λ (l : List ℕ). kept_to 4 present l images) (sym (records_round bytes h))
+          ∙ all_kept present (records_in bytes) whole_at images sized
+          ∙ rw (taken 0 (omega arith), taken 1 (omega arith), taken 2 (omega arith), taken 3 (omega arith)) refl
+
+      pub round_put : (new : List ℕ) → new ≡ kept_to 4 present bytes images →
+          new ≡ cond (is_listed answer) (records_bytes (round_of (records_in bytes) present limit (length buffer)).records) bytes
+      unfolding round_of
+      round_put new e = rw listed (e ∙ all_taken)
+
+    pub round_kept : is_listed answer ≡ false → bytes ≡ cond (is_listed answer) (records_bytes (round_of (records_in bytes) present limit (length buffer)).records) bytes
+    round_kept l = rw l refl
+
+    pub round_answered : answer ≡ (round_of (records_in bytes) present limit (length buffer)).answer
+    unfolding round_of
+    round_answered = answer_is
+
+    pub round_sent : after ≡ round_buffer (present_at present) (record_at (records_in bytes)) limit buffer
+    round_sent = sends ∙ ap (λ (r : List Record). round_buffer (present_at present) (record_at r) limit buffer) read
 
 -- ---- the call
 
@@ -318,7 +263,7 @@ round_fits present records limit size =
     t = bytes_all (round_parts present records limit)
 
     answers : Bool → Bool → Bool → Bool → ListAnswer
-    answers a b c d = cond a (cond b (cond c (cond d (Listed n t) (Refused BufferShort)) (Refused NotItsPlace)) (Refused RoundLimit)) (Refused Unsound)
+    answers a b c d = cond a (cond b (cond c (cond d (listed n t) (refused BufferShort)) (refused NotItsPlace)) (refused RoundLimit)) (refused Unsound)
 
     small : is_listed (round_answer present records limit size) ≡ true → (n < 2 ^ 32) × (t < 2 ^ 32)
     small l =
@@ -333,14 +278,14 @@ round_fits present records limit size =
     go true false c d s = tt
     go false b c d s = tt
 
-pub round_within : (r : Records) (p : Present) (limit size : ℕ) (answer : ListAnswer) → answer ≡ (round_of r p limit size).answer → Fits answer
+pub round_within : (r : List Record) (p : List Bool) (limit size : ℕ) (answer : ListAnswer) → answer ≡ (round_of r p limit size).answer → Fits answer
 unfolding round_of
 round_within r p limit size answer e = subst Fits (sym e) (round_fits (present_at p) (record_at r) limit size)
 
 module _ (bytes : List ℕ) (present : ℕ) where
   -- on bytes of the right size, with marks of the four places
-  module _ (s : round_sized bytes present ≡ true) (marks : Present) (e : marks ≡ present_by present) (limit : ℕ) (buffer : List ℕ) (answer : ListAnswer) (new after : List ℕ) where
-    abbrev Done : Present → Type 0
+  module _ (s : round_sized bytes present ≡ true) (marks : List Bool) (e : marks ≡ present_by present) (limit : ℕ) (buffer : List ℕ) (answer : ListAnswer) (new after : List ℕ) where
+    abbrev Done : List Bool → Type 0
     Done m =
         (answer ≡ (round_of (records_in bytes) m limit (length buffer)).answer)
         × ((new ≡ cond (is_listed answer) (records_bytes (round_of (records_in bytes) m limit (length buffer)).records) bytes)

@@ -1,16 +1,15 @@
 -- What a call answers and stores that writes a list, or finds a transaction in one.
 -- Assumes nothing.
 use mathlib.Core.Path.{◌≡◌, refl, sym, ap, ◌∙◌}
-use mathlib.Core.Bool.{Bool, true, false, cond, ◌&&◌}
+use mathlib.Core.Bool.{Bool, true, false, cond}
 use mathlib.Core.List.{List}
 use Prim.Native.Nat.{ℕ, ◌+◌, ◌<◌, ◌≤◌, ◌^◌}
 use native.Mathlib.Omega.{arith}
-use lib.Dec.{leb, eqb}
-use lib.ListN.{length, set}
+use lib.Dec.{leb}
+use lib.ListN.{length}
 use Rattle.map.specs.declared.refusals.Refusal.{Refusal}
 use Rattle.map.specs.declared.refusals.Refusal.TheVariants.{BufferShort, ListSizes, Unsound, NoTransaction}
 use Rattle.map.specs.Refusals.{refusal_number}
-use Rattle.map.specs.Images.{reset_image}
 use Rattle.burst.specs.declared.places.Place.{Place}
 use Rattle.std.specs.Prelude.{Result, Ok, Err}
 use Rattle.burst.specs.declared.places.PlaceError.{PlaceError}
@@ -18,18 +17,16 @@ use Rattle.burst.specs.declared.places.PlaceError.TheVariants.{BadSizes, NoIndex
 use Rattle.burst.specs.Burst.{at, bus_bytes, data_bytes, place_of}
 use Rattle.burst.specs.BurstLaws.{good_sizes}
 use Rattle.burst.specs.PlaceLaws.{transaction_stands, placed}
-use Rattle.host.specs.declared.Header.{Header}
 use Rattle.host.specs.declared.Record.{Record}
-use Rattle.host.specs.Record.{record_of, free, sound_of}
+use Rattle.host.specs.Record.{record_of, sound_of}
 use Rattle.update.specs.declared.Listed.{Listed}
-use Rattle.update.specs.declared.NotListed.TheVariants.{Short, Refused}
-use Rattle.update.specs.Update.{ListAnswer, listed, short, refused, is_listed, list_number, list_size, Sending, send_answer, send_of, send_buffer, writes_of, updating, update_answer, update_stored, update_of, update_buffer, command_write, command, resetting, reset_answer}
+use Rattle.update.specs.Update.{ListAnswer, listed, short, refused, is_listed, list_number, list_size, Sending, send_answer, send_of, send_buffer, writes_of, updating, update_answer, update_stored, update_of, update_buffer, command_write, command}
 use Rattle.update.specs.Pieces.{UpdateSent}
 use Rattle.update.specs.SendLaws.{answer_of}
 use Rattle.update.proofs.StoredLaws.{stored_is}
 use Rattle.update.specs.BoundLaws.{bus_most, writes_few, size_most}
-use Rattle.capi.specs.Capi.{header_in, marks_at, settings_in, image_at, image_in, record_in, record_bytes, record_size, list_answer, list_bytes, buffer_after, value_after, n_after, t_after, stored_after, needed_after, Fits, place_numbers}
-use Rattle.capi.specs.Calls.{update_call, update_stores, update_needed, transaction_call}
+use Rattle.capi.specs.Capi.{header_in, settings_in, image_at, image_in, record_in, record_bytes, record_size, list_answer, list_bytes, buffer_after, value_after, n_after, t_after, stored_after, Fits, place_numbers}
+use Rattle.capi.specs.Calls.{transaction_call}
 use Rattle.capi.specs.CapiLaws.{record_sized_lem, refused_stores}
 use Rattle.capi.proofs.InPlace.{put_part, chosen, image_put, parts_are}
 

@@ -1,7 +1,7 @@
 -- The C interface, include/lp586x.h: records and chips as the caller's bytes, and what a call answers and leaves in the memory that
 -- it was lent. The sentences are the header's. r is a record, c a chip, x what a call on values gives back.
 -- Assumes nothing.
-use Rattle.std.specs.Prelude.{Result, Ok, Err, Bool, cond, ◌&&◌, List, [], ◌∷◌, ◌++◌, ℕ, ◌+◌, ◌*◌, ◌<◌, ◌^◌, leb, eqb, length, get_or, take, drop}
+use Rattle.std.specs.Prelude.{Result, Ok, Err, Bool, cond, ◌&&◌, List, [], ◌∷◌, ◌++◌, ℕ, zero, suc, ◌+◌, ◌*◌, ◌<◌, ◌^◌, leb, eqb, length, get_or, take, drop}
 use Rattle.map.specs.declared.refusals.Refusal.TheVariants.{BufferShort, ListSizes, Unsound, NoTransaction}
 use Rattle.map.specs.declared.refusals.Numbers.{Numbers}
 use Rattle.map.specs.Refusals.{Answer, refusal_number, answer_number, numbers_of, accepted}
@@ -15,10 +15,8 @@ use Rattle.host.specs.Record.{header_of, record_of}
 use Rattle.update.specs.declared.NotListed.TheVariants.{Short, Refused}
 use Rattle.update.specs.declared.Sent.{Sent}
 use Rattle.update.specs.Update.{ListAnswer, refused, list_numbers, update_numbers, list_number, is_listed}
-use Rattle.rounds.specs.declared.Headers.{Headers}
-use Rattle.rounds.specs.declared.Present.{Present}
-use Rattle.rounds.specs.declared.Records.{Records}
 use Rattle.rounds.specs.declared.Rounded.{Rounded}
+use Rattle.rounds.specs.Round.{present_at, record_at}
 use Rattle.faults.specs.Faults as faults
 use Rattle.faults.specs.Faults.{answer_numbers}
 use Rattle.chip.specs.declared.Chip.{Chip}
@@ -100,38 +98,21 @@ abbrev pub record_from : List ℕ → ℕ → Record
 record_from bytes k = record_in (drop (place_at k) bytes)
 
 -- the records that the bytes hold
-abbrev pub records_in : List ℕ → Records
-records_in bytes = record { first = record_from bytes 0; second = record_from bytes 1; third = record_from bytes 2; fourth = record_from bytes 3 }
-
--- and their headers
-abbrev pub headers_in : List ℕ → Headers
-headers_in bytes = record {
-  first = header_in (drop (place_at 0) bytes);
-  second = header_in (drop (place_at 1) bytes);
-  third = header_in (drop (place_at 2) bytes);
-  fourth = header_in (drop (place_at 3) bytes);
-}
+abbrev pub records_in : List ℕ → List Record
+records_in bytes = record_from bytes 0 ∷ record_from bytes 1 ∷ record_from bytes 2 ∷ record_from bytes 3 ∷ []
 
 -- the bytes of four records, one behind the other
-abbrev pub records_bytes : Records → List ℕ
-records_bytes r = record_bytes r.first ++ (record_bytes r.second ++ (record_bytes r.third ++ record_bytes r.fourth))
+abbrev pub records_bytes : List Record → List ℕ
+records_bytes r = record_bytes (record_at r 0) ++ (record_bytes (record_at r 1) ++ (record_bytes (record_at r 2) ++ record_bytes (record_at r 3)))
 
--- an image at `at`, where a list was written and the record there is present
-abbrev pub kept_at : Bool → Bool → List ℕ → ℕ → List ℕ → List ℕ
-kept_at listed present bytes at image = cond (listed && present) (put_image bytes at image) bytes
+-- an image at `at`, where the record there is present
+abbrev pub kept_at : Bool → List ℕ → ℕ → List ℕ → List ℕ
+kept_at present bytes at image = cond present (put_image bytes at image) bytes
 
--- the images of the last two places, one after the other
-abbrev pub kept_last : Bool → Present → List ℕ → List ℕ → List ℕ → List ℕ
-kept_last listed p bytes m2 m3 =
-    let three = kept_at listed p.third bytes (place_at 2 + image_at) m2 in
-    kept_at listed p.fourth three (place_at 3 + image_at) m3
-
--- and of all four
-abbrev pub kept_all : Bool → Present → List ℕ → List ℕ → List ℕ → List ℕ → List ℕ → List ℕ
-kept_all listed p bytes m0 m1 m2 m3 =
-    let one = kept_at listed p.first bytes (place_at 0 + image_at) m0 in
-    let two = kept_at listed p.second one (place_at 1 + image_at) m1 in
-    kept_last listed p two m2 m3
+-- the images of the first places, each in its own record
+unfoldable pub kept_to : ℕ → List Bool → List ℕ → List (List ℕ) → List ℕ
+kept_to zero present bytes images = bytes
+kept_to (suc k) present bytes images = kept_at (present_at present k) (kept_to k present bytes images) (place_at k + image_at) (get_or images k [])
 
 -- neither of "records_size, or present above 15": four records, and no mark beyond them
 unfoldable pub round_sized : List ℕ → ℕ → Bool

@@ -107,7 +107,7 @@ pub record_back : (r : Record) → length r.settings ≡ 908 → length r.image 
 record_back r hs hi = ap record_in (sym (append-nil (record_bytes r))) ∙ record_begins r (hs, hi) []
 
 -- bytes begin with those of the record that they begin with
-record_first : (bytes : List ℕ) → record_size ≤ length bytes → record_bytes (record_in bytes) ≡ take record_size bytes
+pub record_first : (bytes : List ℕ) → record_size ≤ length bytes → record_bytes (record_in bytes) ≡ take record_size bytes
 unfolding record_in
 record_first bytes h = image_behind bytes (omega arith) (image_in bytes) ∙ sym (take-add image_at 908 bytes)
 

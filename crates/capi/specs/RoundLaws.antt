@@ -6,16 +6,12 @@ use Rattle.std.proofs.Math.Path.{refl}
 use Rattle.std.proofs.Common.{sym, ap, ◌∙◌, arith, length-append, drop_at, drop-drop}
 use Rattle.std.proofs.Math.Bool.{true, false, cond}
 use Rattle.std.proofs.lemmas.Bool.{false≢true}
-use mathlib.Core.List.{List, ◌++◌}
+use mathlib.Core.List.{List, [], ◌∷◌, ◌++◌}
 use Rattle.std.proofs.Math.ListN.{length}
 use Rattle.map.specs.declared.refusals.Refusal.TheVariants.{Unsound}
 use Rattle.host.specs.declared.Record.{Record}
 use Rattle.host.specs.Record.{sound_of}
-use Rattle.update.specs.declared.ListAnswer.{ListAnswer}
-use Rattle.update.specs.declared.ListAnswer.TheVariants.{Refused}
-use Rattle.update.specs.Update.{is_listed, list_number}
-use Rattle.rounds.specs.declared.Present.{Present}
-use Rattle.rounds.specs.declared.Records.{Records}
+use Rattle.update.specs.Update.{ListAnswer, refused, is_listed, list_number}
 use Rattle.rounds.specs.declared.Rounded.{Rounded}
 use Rattle.rounds.specs.Round.{least_limit, most_limit, present_at, record_at, round_answer, round_buffer, round_of, present_by}
 use Rattle.rounds.proofs.DealLaws.{round_takes}
@@ -29,10 +25,10 @@ use Rattle.capi.specs.CallLaws.{either}
 -- ---- Four records read back
 
 -- four records with whole images
-abbrev pub AllWhole : Records → Type 0
+abbrev pub AllWhole : List Record → Type 0
 AllWhole r = (k : ℕ) → k < 4 → Whole (record_at r k)
 
-module _ (r : Records) (w : AllWhole r) where
+module _ (r : List Record) (w : AllWhole r) where
   length_at_lem : (k : ℕ) → k < 4 → length (record_bytes (record_at r k)) ≡ record_size
   length_at_lem k l = record_length (record_at r k) (w k l).0 (w k l).1
 
@@ -41,27 +37,27 @@ module _ (r : Records) (w : AllWhole r) where
   records_length =
       omega (
         arith,
-        length-append (record_bytes r.first) (record_bytes r.second ++ (record_bytes r.third ++ record_bytes r.fourth)),
-        length-append (record_bytes r.second) (record_bytes r.third ++ record_bytes r.fourth),
-        length-append (record_bytes r.third) (record_bytes r.fourth),
+        length-append (record_bytes (record_at r 0)) (record_bytes (record_at r 1) ++ (record_bytes (record_at r 2) ++ record_bytes (record_at r 3))),
+        length-append (record_bytes (record_at r 1)) (record_bytes (record_at r 2) ++ record_bytes (record_at r 3)),
+        length-append (record_bytes (record_at r 2)) (record_bytes (record_at r 3)),
         length_at_lem 0 (omega arith),
         length_at_lem 1 (omega arith),
         length_at_lem 2 (omega arith),
         length_at_lem 3 (omega arith),
       )
 
-  behind_one : drop (place_at 1) (records_bytes r) ≡ record_bytes r.second ++ (record_bytes r.third ++ record_bytes r.fourth)
-  behind_one = drop_at (record_bytes r.first) _ record_size (length_at_lem 0 (omega arith))
+  behind_one : drop (place_at 1) (records_bytes r) ≡ record_bytes (record_at r 1) ++ (record_bytes (record_at r 2) ++ record_bytes (record_at r 3))
+  behind_one = drop_at (record_bytes (record_at r 0)) _ record_size (length_at_lem 0 (omega arith))
 
-  behind_two : drop (place_at 2) (records_bytes r) ≡ record_bytes r.third ++ record_bytes r.fourth
+  behind_two : drop (place_at 2) (records_bytes r) ≡ record_bytes (record_at r 2) ++ record_bytes (record_at r 3)
   behind_two =
       sym (drop-drop record_size (place_at 1) (records_bytes r)) ∙ ap (drop record_size) behind_one
-      ∙ drop_at (record_bytes r.second) _ record_size (length_at_lem 1 (omega arith))
+      ∙ drop_at (record_bytes (record_at r 1)) _ record_size (length_at_lem 1 (omega arith))
 
-  behind_three : drop (place_at 3) (records_bytes r) ≡ record_bytes r.fourth
+  behind_three : drop (place_at 3) (records_bytes r) ≡ record_bytes (record_at r 3)
   behind_three =
       sym (drop-drop record_size (place_at 2) (records_bytes r)) ∙ ap (drop record_size) behind_two
-      ∙ drop_at (record_bytes r.third) _ record_size (length_at_lem 2 (omega arith))
+      ∙ drop_at (record_bytes (record_at r 2)) _ record_size (length_at_lem 2 (omega arith))
 
 -- ---- On the bytes of four records
 
@@ -75,20 +71,30 @@ round_outcome_of x buffer n t = record {
   t = t_after x.answer t;
 }
 
-module _ (r : Records) (w : AllWhole r) where
+-- four records are those at the four places
+four_places : (r : List Record) → length r ≡ 4 → record_at r 0 ∷ record_at r 1 ∷ record_at r 2 ∷ record_at r 3 ∷ [] ≡ r
+four_places [] h = absurd (omega arith)
+four_places (a ∷ []) h = absurd (omega arith)
+four_places (a ∷ b ∷ []) h = absurd (omega arith)
+four_places (a ∷ b ∷ c ∷ []) h = absurd (omega arith)
+four_places (a ∷ b ∷ c ∷ d ∷ []) h = refl
+four_places (a ∷ b ∷ c ∷ d ∷ e ∷ rest) h = absurd (omega arith)
+
+module _ (r : List Record) (four : length r ≡ 4) (w : AllWhole r) where
   -- four records are read back from their bytes
   pub records_back : records_in (records_bytes r) ≡ r
   records_back =
-      four (record_begins r.first (w 0 (omega arith)) (record_bytes r.second ++ (record_bytes r.third ++ record_bytes r.fourth)))
-      (ap record_in (behind_one r w) ∙ record_begins r.second (w 1 (omega arith)) (record_bytes r.third ++ record_bytes r.fourth))
-      (ap record_in (behind_two r w) ∙ record_begins r.third (w 2 (omega arith)) (record_bytes r.fourth))
-      (ap record_in (behind_three r w) ∙ record_back r.fourth (w 3 (omega arith)).0 (w 3 (omega arith)).1)
+      all
+      (record_begins (record_at r 0) (w 0 (omega arith)) (record_bytes (record_at r 1) ++ (record_bytes (record_at r 2) ++ record_bytes (record_at r 3))))
+      (ap record_in (behind_one r w) ∙ record_begins (record_at r 1) (w 1 (omega arith)) (record_bytes (record_at r 2) ++ record_bytes (record_at r 3)))
+      (ap record_in (behind_two r w) ∙ record_begins (record_at r 2) (w 2 (omega arith)) (record_bytes (record_at r 3)))
+      (ap record_in (behind_three r w) ∙ record_back (record_at r 3) (w 3 (omega arith)).0 (w 3 (omega arith)).1)
     where
-      four : {a b c d : Record} → a ≡ r.first → b ≡ r.second → c ≡ r.third → d ≡ r.fourth → record { first = a; second = b; third = c; fourth = d } ≡ r
-      four ea eb ec ed = rw (ea, eb, ec, ed) refl
+      all : {a b c d : Record} → a ≡ record_at r 0 → b ≡ record_at r 1 → c ≡ record_at r 2 → d ≡ record_at r 3 → a ∷ b ∷ c ∷ d ∷ [] ≡ r
+      all ea eb ec ed = rw (ea, eb, ec, ed) (four_places r four)
 
   -- a refused round gives back the records that it was given
-  records_kept : (p : Present) (limit size : ℕ) → is_listed (round_of r p limit size).answer ≡ false → records_bytes (round_of r p limit size).records ≡ records_bytes r
+  records_kept : (p : List Bool) (limit size : ℕ) → is_listed (round_of r p limit size).answer ≡ false → records_bytes (round_of r p limit size).records ≡ records_bytes r
   unfolding round_of
   records_kept p limit size e =
       rw (
@@ -117,7 +123,7 @@ module _ (r : Records) (w : AllWhole r) where
       round_call (records_bytes r) present limit buffer n t ≡
       round_outcome_of (round_of r (present_by present) limit (length buffer)) (round_buffer (present_at (present_by present)) (record_at r) limit buffer) n t
   round_call_lem present limit h buffer n t =
-      ap (λ (y : Records).
+      ap (λ (y : List Record).
       round_outcome (records_bytes r) present (round_of y (present_by present) limit (length buffer)) (round_buffer (present_at (present_by present)) (record_at y) limit buffer) buffer n t)
       records_back
       ∙ round_stored present h (round_of r (present_by present) limit (length buffer)) (round_buffer (present_at (present_by present)) (record_at r) limit buffer) buffer n t
@@ -126,14 +132,14 @@ module _ (r : Records) (w : AllWhole r) where
 -- ---- On any bytes
 
 module _ (bytes : List ℕ) (present limit : ℕ) (buffer : List ℕ) (n t : ℕ) where
-  abbrev p : Present
+  abbrev p : List Bool
   p = present_by present
 
-  abbrev r : Records
+  abbrev r : List Record
   r = records_in bytes
 
   abbrev answer : Bool → ListAnswer
-  answer b = cond b (round_answer (present_at p) (record_at r) limit (length buffer)) (Refused Unsound)
+  answer b = cond b (round_answer (present_at p) (record_at r) limit (length buffer)) (refused Unsound)
 
   -- The list of an answer of 0 stands in the buffer that was lent.
   pub round_inside : (round_call bytes present limit buffer n t).answer ≡ 0 →

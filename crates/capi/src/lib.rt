@@ -240,10 +240,12 @@ pub fn lp586x_transaction(list: &[u8], index: u32, offset: &mut u32, size: &mut 
     ensures size_after { size.new ≡ (transaction_call list.now index offset.old size.old).size }
 {
     match burst::transaction(list, index as usize) {
-        Ok(Place {
-            offset: first,
-            length: count,
-        }) => {
+        Ok(
+            Place {
+                offset: first,
+                length: count,
+            },
+        ) => {
             *offset = first as u32;
             *size = count as u32;
             0

@@ -25,7 +25,7 @@ returns c =
       value = c.count.ensures.value;
       bytes_after =
           elim c.if-is_ok.branch [
-            then-is_ok w ↦ w.bytes-is ∙ stored_host resetting c.args.bytes.now size _ read c.args.buffer.now _ ea _ (sym c.is_ok.ensures.value ∙ w.if-is_ok.true) w.put_reset.ensures
+            | then-is_ok w ↦ w.bytes-is ∙ stored_host resetting c.args.bytes.now size _ read c.args.buffer.now _ ea _ (sym c.is_ok.ensures.value ∙ w.if-is_ok.true) w.put_reset.ensures
             | else-is_ok w ↦ w.bytes-is ∙ kept_bytes resetting c.args.bytes.now size _ read c.args.buffer.now _ ea (sym c.is_ok.ensures.value ∙ w.if-is_ok.false)
           ];
       buffer_after = buffer_is resetting c.args.bytes.now size _ read c.args.buffer.now _ ea _ c.reset_parts-answer.ensures.buffer_after;

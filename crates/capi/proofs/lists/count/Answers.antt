@@ -2,7 +2,7 @@
 -- Assumes nothing.
 use mathlib.Core.Path.{subst}
 use native.Mathlib.Omega.{arith}
-use Rattle.capi.proofs.Listed.{counted_listed, counted_short, counted_refused}
+use Rattle.capi.proofs.Listed.{counted_listed}
 use Rattle.capi.specs.Capi.{Fits}
 use Rattle.capi.proofs.lists.count.Goals as goal
 

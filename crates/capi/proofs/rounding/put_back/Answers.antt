@@ -1,14 +1,19 @@
 -- `capi::rounding::put_back` meets its contract.
 -- Assumes nothing.
-use Rattle.update.specs.Update.{is_listed}
-use Rattle.capi.proofs.FourRecords.{kept_each}
-use mathlib.Core.Path.{◌∙◌}
+use mathlib.Core.Path.{refl, ◌∙◌}
+use native.Mathlib.Omega.{arith}
+use Rattle.capi.specs.Capi.{kept_to}
+use Rattle.capi.proofs.FourRecords.{kept_present, kept_absent}
 use Rattle.capi.proofs.rounding.put_back.Goals as goal
+use Rattle.capi.proofs.rounding.put_back.Goals.{then-present-place, else-present-place}
 
-pub shape_of-bytes : goal.shape_of-bytes
-shape_of-bytes c = c.put_back_last.auto.bytes ∙ c.keep-2.auto.bytes ∙ c.keep.auto.bytes
+pub loop-place-init : goal.loop-place-init
+unfolding kept_to
+loop-place-init c = refl
 
-pub returns : goal.returns
-returns c =
-    kept_each (is_listed c.args.answer) c.args.present c.args.bytes.now c.args.m0.now c.args.m1.now c.args.m2.now c.args.m3.now _ _ _
-    c.keep.ensures c.keep-2.ensures c.put_back_last.ensures
+pub loop-place-preserved : goal.loop-place-preserved
+loop-place-preserved c =
+    elim c.if-present-place.branch [
+      | then-present-place w ↦ kept_present _ _ _ _ _ c.loop-place.invariant _ _ _ _ w.if-present-place.true refl (omega arith) w.copy_from_slice.ensures.after w.bytes-is
+      | else-present-place w ↦ w.bytes-is ∙ kept_absent _ _ _ _ _ c.loop-place.invariant w.if-present-place.false
+    ]

@@ -1,16 +1,25 @@
 -- `capi::rounding::round` meets its contract.
 -- Assumes nothing.
-use Rattle.capi.proofs.FourRecords.{round_done}
+use mathlib.Core.Path.{sym, ◌∙◌}
+use Rattle.capi.proofs.FourRecords.{round_put, round_kept, round_answered, round_sent}
 use Rattle.capi.proofs.rounding.round.Goals as goal
 
-pub shape_of-bytes : goal.shape_of-bytes
-shape_of-bytes c = c.put_back.auto.bytes
+pub returns-then-is_ok : goal.returns-then-is_ok
+returns-then-is_ok c =
+    let x = c.round_parts-answer.ensures in record {
+      value = round_answered c.args.bytes.now c.requires _ _ _ _ _ _ _ _ _ _ c.image.ensures c.image-2.ensures c.image-3.ensures c.image-4.ensures _ c.records.ensures x.value x.buffer_after x.images_after;
+      bytes_after =
+          round_put c.args.bytes.now c.requires _ _ _ _ _ _ _ _ _ _ c.image.ensures c.image-2.ensures c.image-3.ensures c.image-4.ensures _ c.records.ensures x.value x.buffer_after x.images_after
+          (sym c.is_ok.ensures.value ∙ c.if-is_ok.true) _ c.put_back.ensures;
+      buffer_after = round_sent c.args.bytes.now c.requires _ _ _ _ _ _ _ _ _ _ c.image.ensures c.image-2.ensures c.image-3.ensures c.image-4.ensures _ c.records.ensures x.value x.buffer_after x.images_after;
+    }
 
-pub shape_of-buffer : goal.shape_of-buffer
-shape_of-buffer c = c.send-answer.auto.buffer
-
-pub returns : goal.returns
-returns c =
-    let p = round_done c.args.bytes.now c.requires c.args.present c.args.limit c.args.buffer.now _ _ _ _ _ _ _ _ _ _ _
-    c.image-m0.ensures c.image-m1.ensures c.image-m2.ensures c.image-m3.ensures
-    (c.send-answer.ensures.value, (c.send-answer.ensures.buffer_after, (c.send-answer.ensures.images_after, (c.send-answer.ensures.m0_len_unchanged, (c.send-answer.ensures.m1_len_unchanged, (c.send-answer.ensures.m2_len_unchanged, c.send-answer.ensures.m3_len_unchanged)))))) c.put_back.ensures in record { value = p.0; bytes_after = p.1.0; buffer_after = p.1.1 }
+pub returns-else-is_ok : goal.returns-else-is_ok
+returns-else-is_ok c =
+    let x = c.round_parts-answer.ensures in record {
+      value = round_answered c.args.bytes.now c.requires _ _ _ _ _ _ _ _ _ _ c.image.ensures c.image-2.ensures c.image-3.ensures c.image-4.ensures _ c.records.ensures x.value x.buffer_after x.images_after;
+      bytes_after =
+          round_kept c.args.bytes.now c.requires _ _ _ _ _ _ _ _ _ _ c.image.ensures c.image-2.ensures c.image-3.ensures c.image-4.ensures _ c.records.ensures x.value x.buffer_after x.images_after
+          (sym c.is_ok.ensures.value ∙ c.if-is_ok.false);
+      buffer_after = round_sent c.args.bytes.now c.requires _ _ _ _ _ _ _ _ _ _ c.image.ensures c.image-2.ensures c.image-3.ensures c.image-4.ensures _ c.records.ensures x.value x.buffer_after x.images_after;
+    }
