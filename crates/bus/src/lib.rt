@@ -6,90 +6,80 @@
 #![tactic(auto)]
 
 mod hearing;
-mod places;
 
 ghost use Rattle.std.specs.Prelude.{◌≡◌, length};
 ghost use Rattle.rounds.specs.Round.{present_at, round_buffer};
-ghost use Rattle.bus.specs.Bus.{hosts_of, world_at, call_of, bus_lent, rounded_of, stepped_of};
+ghost use Rattle.bus.specs.Bus.{hosts_of, world_at, records_in, call_of, bus_lent, rounded_of, stepped_of};
 
 use calls::Request;
-use history::{CallAnswer, World};
-use rounds::Present;
+use history::{CallAnswer, Stepped, World};
+use host::Record;
+use rounds::Rounded;
+use std::array;
 use update::ListAnswer;
 
-// The records and the chips of the four places.
-#[derive(Clone, Copy)]
-pub struct Panels {
-    pub first: World,
-    pub second: World,
-    pub third: World,
-    pub fourth: World,
-}
-
-// What a round answers, and the panels after it.
+// What a round answers, and the records and the chips of the four places after it.
 #[derive(Clone, Copy)]
 pub struct BusRounded {
     pub answer: ListAnswer,
-    pub panels: Panels,
+    pub panels: [World; 4],
 }
 
 // A call at one place, where 3 and every number above it is the last one, or a round.
 #[derive(Clone, Copy)]
 pub enum BusRequest {
     Plain { place: usize, request: Request },
-    Round { present: Present, limit: usize },
+    Round { present: [bool; 4], limit: usize },
 }
 
 // What a bus call answers, and the panels after it.
 #[derive(Clone, Copy)]
 pub struct BusStepped {
     pub answer: CallAnswer,
-    pub panels: Panels,
+    pub panels: [World; 4],
+}
+
+fn records_in(panels: [World; 4]) -> [Record; 4]
+    ensures { result ≡ records_in panels }
+{
+    array::from_fn(|place| panels[place].host)
 }
 
 // A round over the records of the four places. The list that it answers is fed at once to every chip of the bus.
-pub fn round(panels: Panels, present: Present, limit: usize, buffer: &mut [u8]) -> BusRounded
+pub fn round(panels: [World; 4], present: [bool; 4], limit: usize, buffer: &mut [u8]) -> BusRounded
     ensures value { result ≡ rounded_of panels (present_at present) limit (length buffer.old) }
     ensures buffer_after { buffer.new ≡ round_buffer (present_at present) (hosts_of (world_at panels)) limit buffer.old }
 {
-    let rounded = rounds::round(places::records_in(panels), present, limit, buffer);
-    let answer = rounded.answer;
-    let records = rounded.records;
-    let after = hearing::heard(answer, panels, records, buffer);
+    let Rounded { answer, records } = rounds::round(records_in(panels), present, limit, buffer);
     BusRounded {
-        answer: answer,
-        panels: after,
+        answer,
+        panels: hearing::heard(answer, panels, records, buffer),
     }
 }
 
 // A call at one place.
-fn plain(panels: Panels, place: usize, request: Request, lent: &mut [u8]) -> BusStepped
+fn plain(mut panels: [World; 4], place: usize, request: Request, lent: &mut [u8]) -> BusStepped
     ensures value { result ≡ stepped_of panels (call_of (BusRequest.Plain place request) lent.old) }
     ensures lent_after { lent.new ≡ bus_lent (world_at panels) (call_of (BusRequest.Plain place request) lent.old) }
 {
-    let stepped = history::step(places::world_at(panels, place), request, lent);
-    let answer = stepped.answer;
-    let world = stepped.world;
-    BusStepped {
-        answer: answer,
-        panels: places::with_world(panels, place, world),
-    }
+    let place = place.min(3);
+    let Stepped { answer, world } = history::step(panels[place], request, lent);
+    panels[place] = world;
+    BusStepped { answer, panels }
 }
 
 // One bus call on the panels of the four places. The bytes of a Scene and the buffer of a call that writes a list are lent.
-pub fn step(panels: Panels, request: BusRequest, lent: &mut [u8]) -> BusStepped
+pub fn step(panels: [World; 4], request: BusRequest, lent: &mut [u8]) -> BusStepped
     ensures value { result ≡ stepped_of panels (call_of request lent.old) }
     ensures lent_after { lent.new ≡ bus_lent (world_at panels) (call_of request lent.old) }
 {
     match request {
         BusRequest::Plain { place, request } => plain(panels, place, request, lent),
         BusRequest::Round { present, limit } => {
-            let rounded = round(panels, present, limit, lent);
-            let answer = rounded.answer;
-            let after = rounded.panels;
+            let BusRounded { answer, panels } = round(panels, present, limit, lent);
             BusStepped {
                 answer: CallAnswer::List(answer),
-                panels: after,
+                panels,
             }
         }
     }
