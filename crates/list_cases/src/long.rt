@@ -5,10 +5,8 @@ use crate::writes::{put_counts, put_single, put_three_sizes, put_write};
 // 00h to FFh.
 fn rising() -> [u8; 256] {
     let mut bytes = [0u8; 256];
-    let mut i: usize = 0;
-    while i < 256 {
-        bytes[i] = (i % 256) as u8;
-        i += 1;
+    for (byte, value) in bytes.iter_mut().zip(0..=255) {
+        *byte = value;
     }
     bytes
 }
@@ -35,10 +33,8 @@ const MOST: usize = 13106;
 // The first length is 5, each other one 3.
 fn put_lengths(list: &mut [u8]) {
     burst::put_size(list, 4, 5);
-    let mut i: usize = 1;
-    while i < MOST {
+    for i in 1..MOST {
         burst::put_size(list, 4 + 2 * i, 3);
-        i += 1;
     }
 }
 

@@ -1,6 +1,4 @@
 // What the program prints, all of it on standard output.
-ghost use Rattle.std.specs.Prelude.{◌≤◌, length};
-
 use console::{say, say_decimal};
 
 // Bytes that have room for the text of any list.
@@ -32,35 +30,17 @@ pub fn one_line(rt: &impl Print, caption: &[u8], bus: usize, list: &[u8]) {
     say_line(rt, &text[..end]);
 }
 
-// Where the first line ends.
-fn first_line(text: &[u8]) -> usize
-    ensures { result ≤ length text.now }
-{
-    let mut i: usize = 0;
-    while i < text.len() {
-        if text[i] == b'\n' {
-            return i;
-        }
-        i += 1;
-    }
-    i
+// The first line, without its line end.
+fn first_line(text: &[u8]) -> &[u8] {
+    text.split(|byte| *byte == b'\n').next().unwrap_or(&[])
 }
 
 fn lines(text: &[u8]) -> usize {
-    let mut count: usize = 0;
-    let mut i: usize = 0;
-    while i < text.len() {
-        if text[i] == b'\n' {
-            count += 1;
-        }
-        i += 1;
-    }
-    count
+    text.iter().filter(|byte| **byte == b'\n').count()
 }
 
 fn say_summary(rt: &impl Print, text: &[u8]) {
-    let end = first_line(text);
-    say_line(rt, &text[..end]);
+    say_line(rt, first_line(text));
     say_decimal(rt, lines(text) as u64);
     say(rt, b" lines, ");
     say_decimal(rt, text.len() as u64);

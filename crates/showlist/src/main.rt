@@ -8,41 +8,24 @@ ghost use Rattle.showlist.specs.Arguments.{is_spi, bus_asked};
 use std::env::Env;
 use std::io::Read;
 
-// No bus.
-const NEITHER: usize = 2;
-
 // Whether a word is `spi`.
 #[tactic(auto, unfolding(crate::specs::Arguments::is_spi))]
 fn is_spi(word: &[u8]) -> bool
     ensures { result ≡ is_spi word.now }
 {
-    if word.len() != 3 {
-        return false;
-    }
-    if word[0] != b's' {
-        return false;
-    }
-    if word[1] != b'p' {
-        return false;
-    }
-    word[2] == b'i'
+    word == b"spi".as_slice()
 }
 
 // The bus of the list, by how many words the program was started with, its own name among them, and the second of them.
 #[tactic(auto, unfolding(crate::specs::Arguments::bus_asked))]
-fn bus_asked(words: usize, word: &[u8]) -> usize
+fn bus_asked(words: usize, word: &[u8]) -> Option<usize>
     ensures { result ≡ bus_asked words word.now }
 {
-    if words <= 1 {
-        return 0;
+    match words {
+        0 | 1 => Some(0),
+        2 if is_spi(word) => Some(1),
+        _ => None,
     }
-    if words != 2 {
-        return NEITHER;
-    }
-    if !is_spi(word) {
-        return NEITHER;
-    }
-    1
 }
 
 // Reads until the buffer is full, the input ends or a read fails. It answers how many bytes it has put at the buffer's start.
@@ -52,9 +35,8 @@ fn read_full(input: &mut impl Read, buffer: &mut [u8]) -> usize
     let mut done = 0;
     while done < buffer.len() {
         match input.read(&mut buffer[done..]) {
-            Ok(0) => break,
+            Ok(0) | Err(_) => break,
             Ok(n) => done += n,
-            Err(_) => break,
         }
     }
     done
@@ -74,13 +56,11 @@ fn main(rt: HostRuntime) {
     // a longer word is none here
     let mut word = [0u8; 8];
     let length = rt.arg(1, &mut word).unwrap_or(0);
-    let bus = bus_asked(console::arg_count(&rt), &word[..length]);
-    if bus == NEITHER {
-        console::say(
+    match bus_asked(console::arg_count(&rt), &word[..length]) {
+        Some(bus) => print_list(&rt, &mut rt.stdin(), bus),
+        None => console::say(
             &rt.stderr(),
             b"showlist: takes no argument for a list with I2C heads, spi for one with SPI heads\n",
-        );
-        return;
+        ),
     }
-    print_list(&rt, &mut rt.stdin(), bus);
 }
