@@ -20,7 +20,8 @@ const CLEAR_I2C: [u8; 10] = *b"\x01\x00\x04\x00\x04\x00\x80\xA7\x0F\x0F";
 const CLEAR_SPI: [u8; 10] = *b"\x01\x00\x04\x00\x04\x00\x29\xE0\x0F\x0F";
 
 // A command, to the front of the buffer: of these lists of one write, with pins 0, that of the record's bus. An I2C head has the record's
-// pins.
+// pins. Inlined, so that a string's length is a constant in each command: its copy is no loop then.
+#[inline(always)]
 fn put_command(r: RecordRef<'_>, buffer: &mut [u8], i2c: &[u8], spi: &[u8]) -> ListAnswer
     requires { (8 ≤ length i2c.now) × (length spi.now ≡ length i2c.now) }
     ensures { (a : ℕ) (bytes : List ℕ) (new : Record) → i2c.now ≡ encode 0 0 (command_write a bytes) →
