@@ -6,8 +6,7 @@ use Rattle.std.proofs.Common.{sym, ◌∙◌, subst}
 use Rattle.std.proofs.Math.Path.{ap}
 use Rattle.map.specs.Refusals.{numbers_of}
 use Rattle.calls.specs.declared.Request.TheVariants.{Reset}
-use Rattle.update.specs.declared.ListAnswer.{ListAnswer}
-use Rattle.update.specs.Update.{chip_reset_of, list_number}
+use Rattle.update.specs.Update.{ListAnswer, chip_reset_of, list_number}
 use Rattle.chip.specs.Chip.{chip_of, sound_of}
 use Rattle.chip.specs.ChipLaws.{sound_is}
 use Rattle.history.specs.declared.World.{World}

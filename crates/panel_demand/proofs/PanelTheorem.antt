@@ -14,9 +14,7 @@ use Rattle.host.specs.declared.Header.{Header}
 use Rattle.host.specs.declared.Record.{Record}
 use Rattle.host.specs.Record.{header_of, record_of, sound_of, open_of}
 use Rattle.host.proofs.SoundLaws.{is_sound}
-use Rattle.update.specs.declared.ListAnswer.{ListAnswer}
-use Rattle.update.specs.declared.ListAnswer.TheVariants.{Listed}
-use Rattle.update.specs.Update.{list_number, send_of, writes_of, updating, update_stored, update_of, update_buffer}
+use Rattle.update.specs.Update.{ListAnswer, listed, list_number, send_of, writes_of, updating, update_stored, update_of, update_buffer}
 use Rattle.update.specs.SendLaws.{answered, answer_of}
 use Rattle.update.specs.BoundLaws.{always_room}
 use Rattle.chip.specs.declared.Chip.{Chip}
@@ -139,10 +137,10 @@ module _ (m b p : ℕ) (so : opens m b p ≡ true) (s : List ℕ) (w : World) (h
           writes_of (record_in (panel_run (bytes_of w) calls).host) ≡ []
       none_here zero none =
           let r : Record = world.host in
-          let listed : answer ≡ Listed (n_after answer n) (t_after answer t) =
+          let is_list : answer ≡ listed (n_after answer n) (t_after answer t) =
           zero_stores answer n t (ap (λ (x : ListOutcome). x.answer) (sym left_is) ∙ zero) in
           let n_is : n_after answer n ≡ length (writes_of r) =
-          (answered r (updating r) refl (length buffer) (n_after answer n) (t_after answer t) (sym (answer_of r (updating r) (length buffer)) ∙ listed)).n_is in
+          (answered r (updating r) refl (length buffer) (n_after answer n) (t_after answer t) (sym (answer_of r (updating r) (length buffer)) ∙ is_list)).n_is in
           ap (λ (x : Panel). writes_of (record_in x.host)) (run_is calls)
           ∙ ap writes_of (record_back r sizes.settings sizes.image)
           ∙ no_writes (writes_of r) (sym n_is ∙ ap (λ (x : ListOutcome). x.n) (sym left_is) ∙ none)

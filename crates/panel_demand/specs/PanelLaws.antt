@@ -1,7 +1,7 @@
 -- One call on the bytes of a world leaves the bytes of the world after that call, one lemma for each call, and so does any list of
 -- calls. It also answers the number of that call, and leaves the lent bytes as that call does.
 -- Assumes nothing.
-use Rattle.std.specs.Prelude.{◌≡◌, Bool, true, List, [], ◌∷◌, map, ℕ, length}
+use Rattle.std.specs.Prelude.{get_or, ◌≡◌, Bool, true, List, [], ◌∷◌, map, ℕ, length}
 use Rattle.std.proofs.Math.Path.{refl, sym, ap}
 use Rattle.std.proofs.Common.{ap₂, ◌∙◌, ne_eqb}
 use Rattle.std.proofs.Math.Bool.{false≢true}
@@ -12,9 +12,9 @@ use Rattle.calls.specs.declared.Request.{Request}
 use Rattle.calls.specs.declared.Request.TheVariants.{Set, Reset, PowerLost, Update, Lock}
 use Rattle.host.specs.declared.Record.{Record}
 use Rattle.host.specs.Record.{setting_numbers, changed_to, setting_of, power_lost_of, lock_of}
-use Rattle.update.specs.declared.ListAnswer.{ListAnswer}
-use Rattle.update.specs.declared.ListAnswer.TheVariants.{Listed, Short, Refused}
-use Rattle.update.specs.Update.{list_number, Sending, send_of, send_buffer, updating, update_of, resetting}
+use Rattle.std.specs.Prelude.{Ok, Err}
+use Rattle.update.specs.declared.NotListed.TheVariants.{Short, Refused}
+use Rattle.update.specs.Update.{ListAnswer, list_number, Sending, send_of, send_buffer, updating, update_of, resetting}
 use Rattle.update.proofs.StoredLaws.{update_number}
 use Rattle.chip.specs.Chip.{feed_of}
 use Rattle.history.specs.declared.World.{World}
@@ -55,9 +55,9 @@ module _ (w : World) (whole : Whole w) (lent : List ℕ) (n t stored needed : �
   list_fed : (answer : ListAnswer) (buffer : List ℕ) →
       chip_fed (list_number answer) (n_after answer n) (t_after answer t) buffer chip ≡ chip_bytes (fed_by answer buffer w.chip)
   unfolding value_after chip_fed
-  list_fed (Listed k u) buffer = fed_bytes (list_in k u buffer)
-  list_fed (Short size) buffer = refl
-  list_fed (Refused x) buffer = rw (ne_eqb (list_number (Refused x)) 0 (λ e. false≢true (zero_listed (Refused x) e))) refl
+  list_fed (Ok l) buffer = fed_bytes (list_in l.n l.t buffer)
+  list_fed (Err (Short size)) buffer = refl
+  list_fed (Err (Refused x)) buffer = rw (ne_eqb (list_number (Err (Refused x))) 0 (λ e. false≢true (zero_listed (Err (Refused x)) e))) refl
 
   -- what a call that sends leaves of the bytes of a record
   sent : (f : Record → Sending) → send_call f (record_bytes r) lent n t ≡ list_outcome_of (send_of r (f r) (length lent)) (send_buffer r (f r) lent) n t
@@ -80,7 +80,7 @@ module _ (w : World) (whole : Whole w) (lent : List ℕ) (n t stored needed : �
 
   -- it answers the number of the call by value
   pub step_answers : (request : Request) →
-      (panel_step (bytes_of w) request lent n t stored needed).answer ≡ (call_numbers (step_of w request lent).answer).number
+      (panel_step (bytes_of w) request lent n t stored needed).answer ≡ get_or (call_numbers (step_of w request lent).answer).values 0 0
   unfolding setting_of changed_to setting_numbers power_lost_of lock_of numbers_of
   step_answers (Set q) = ap (λ (x : Outcome). x.answer) (setting_of_call r whole.settings whole.image q lent)
   step_answers Reset = ap (λ (x : ListOutcome). x.answer) (sent resetting)
