@@ -29,10 +29,7 @@ pub fn arg_count(rt: &impl Env) -> usize {
 
 // The system's words for an error, behind which its number stands in parentheses.
 fn without_number(text: &str) -> &str {
-    match text.split_once(" (os error ") {
-        Some((words, _)) => words,
-        None => text,
-    }
+    text.split_once(" (os error ").map_or(text, |(words, _)| words)
 }
 
 // A line: what failed, as the caller names it, a colon and the system's words for the error.
