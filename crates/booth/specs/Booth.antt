@@ -1,25 +1,28 @@
 -- Four panels in a script: "There are four panels, 0 to 3, each with its own record, chip and ledger". What stands at the places 0 to 3 is a
 -- function of the place: s is the sessions. A number above 3 names the last place.
 -- Assumes nothing.
-use Rattle.std.specs.Prelude.{cond, List, ℕ, eqb}
+use Rattle.std.specs.Prelude.{cond, None, List, [], ◌∷◌, map, ℕ, eqb}
 use Rattle.history.specs.Step.{call_numbers}
 use Rattle.rounds.specs.Round.{at_place, present_by}
-use Rattle.bus.specs.declared.Panels.{Panels}
+use Rattle.history.specs.declared.World.{World}
 use Rattle.bus.specs.declared.BusRequest.TheVariants.{Round}
 use Rattle.bus.specs.declared.BusStepped.{BusStepped}
-use Rattle.bus.specs.Bus.{BusCall, place_of, world_at, call_of, bus_lent, stepped_of}
+use Rattle.bus.specs.Bus.{BusCall, no_world, place_of, world_at, call_of, bus_lent, stepped_of}
 use Rattle.session.specs.declared.Session.{Session}
 use Rattle.session.specs.Run.{opened_session, with_world}
 use Rattle.booth.specs.declared.Booth.{Booth}
 use Rattle.booth.specs.declared.BoothRounded.{BoothRounded}
 
 -- the session of a place
+abbrev pub no_session : Session
+no_session = record { world = no_world; ledger = None }
+
 abbrev pub session_at : Booth → ℕ → Session
-session_at x = at_place x.first x.second x.third x.fourth
+session_at x = at_place no_session x.sessions
 
 -- four sessions, with place k the current one
 abbrev pub booth_of : (ℕ → Session) → ℕ → Booth
-booth_of s k = record { first = s 0; second = s 1; third = s 2; fourth = s 3; current = k }
+booth_of s k = record { sessions = s 0 ∷ s 1 ∷ s 2 ∷ s 3 ∷ []; current = k }
 
 -- "all at first those of `open 0 0 0`"; "at the start it is 0"
 unfoldable pub fresh_booth : Booth
@@ -40,11 +43,11 @@ selected x k = booth_of (session_at x) k
 -- ---- `round`
 
 -- the records and the chips of the four panels
-abbrev pub panels_in : Booth → Panels
-panels_in x = record { first = x.first.world; second = x.second.world; third = x.third.world; fourth = x.fourth.world }
+abbrev pub panels_in : Booth → List World
+panels_in x = map (λ k. (session_at x k).world) (0 ∷ 1 ∷ 2 ∷ 3 ∷ [])
 
 -- others of them: "It tells no ledger, and it leaves the current panel as it is."
-unfoldable pub with_panels : Booth → Panels → Booth
+unfoldable pub with_panels : Booth → List World → Booth
 with_panels x y = booth_of (λ k. with_world (session_at x k) (world_at y k)) x.current
 
 -- "Round of the four records, with a buffer of L bytes": the bus call, with the marks p, "bit k says that panel k is present", and B

@@ -16,10 +16,7 @@ use session::Session;
 // The sessions of the four places, and the place of the current one.
 #[derive(Clone, Copy)]
 pub struct Booth {
-    pub first: Session,
-    pub second: Session,
-    pub third: Session,
-    pub fourth: Session,
+    pub sessions: [Session; 4],
     pub current: usize,
 }
 
@@ -31,43 +28,30 @@ pub struct BoothRounded {
 }
 
 // Before the first line.
+#[tactic(auto, unfolding(crate::specs::Booth::fresh_booth))]
 pub fn start() -> Booth
     ensures { result ≡ fresh_booth }
 {
     let session = session::start();
     Booth {
-        first: session,
-        second: session,
-        third: session,
-        fourth: session,
+        sessions: [session; 4],
         current: 0,
     }
 }
 
 // The session of the current panel.
+#[tactic(auto, unfolding(crate::specs::Booth::current_of))]
 pub fn current_session(booth: Booth) -> Session
     ensures { result ≡ current_of booth }
 {
-    let current = booth.current;
-    match current {
-        0 => booth.first,
-        1 => booth.second,
-        2 => booth.third,
-        _ => booth.fourth,
-    }
+    booth.sessions[booth.current.min(3)]
 }
 
 // Another session of the current panel.
 pub fn with_current(mut booth: Booth, session: Session) -> Booth
     ensures { result ≡ with_current booth session }
 {
-    let current = booth.current;
-    match current {
-        0 => booth.first = session,
-        1 => booth.second = session,
-        2 => booth.third = session,
-        _ => booth.fourth = session,
-    }
+    booth.sessions[booth.current.min(3)] = session;
     booth
 }
 

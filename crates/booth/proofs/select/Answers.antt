@@ -1,9 +1,8 @@
--- `booth::select` meets its contract.
+-- The sessions stay.
 -- Assumes nothing.
-use mathlib.Core.Path.{refl}
-use Rattle.booth.specs.Booth.{selected}
+use Rattle.std.proofs.Common.{◌≡◌, length, arith}
+use Rattle.booth.proofs.Steps.{select_is}
 use Rattle.booth.proofs.select.Goals as goal
 
 pub returns : goal.returns
-unfolding selected
-returns c = refl
+returns c = let four : length c.args.booth.sessions ≡ 4 = omega arith in select_is c.args.booth four c.args.place
