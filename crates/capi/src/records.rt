@@ -60,7 +60,7 @@ pub(crate) fn put_reset(bytes: &mut [u8])
 {
     let header = header(bytes);
     images::put_reset(header.member as usize, &mut bytes[IMAGE..RECORD_SIZE]);
-    put_marks(bytes, host::FREE);
+    put_marks(bytes, host::FREE); // a lock is released
 }
 
 // The bytes that a record and a chip begin with.
@@ -77,7 +77,7 @@ fn put_header(bytes: &mut [u8], member: u8, bus: u8, pins: u8)
     ensures { bytes.new ≡ set (member ∷ bus ∷ pins ∷ drop 3 bytes.old) marks_at free }
 {
     put_front(bytes, member, bus, pins);
-    put_marks(bytes, host::FREE);
+    put_marks(bytes, host::FREE); // behind the front
 }
 
 // A record that was opened: its header, and the member's reset values for both images.
