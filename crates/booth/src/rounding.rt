@@ -36,7 +36,6 @@ fn with_panels(booth: Booth, panels: [World; 4]) -> Booth
 }
 
 // A round with these marks and B. Its list goes to every chip of the bus, whichever panel is the current one.
-
 pub fn round(booth: Booth, marks: usize, limit: usize, buffer: &mut [u8]) -> BoothRounded
     ensures value { result ≡ rounded_booth booth marks limit buffer.old }
     ensures buffer_after { buffer.new ≡ round_lent booth marks limit buffer.old }

@@ -13,9 +13,7 @@ use Rattle.plan.proofs.PortionLaws.{portion_begins, portion_empty}
 use Rattle.calls.specs.declared.Request.TheVariants.{Update}
 use Rattle.host.specs.declared.Header.{Header}
 use Rattle.host.specs.Record.{header_of, may_write}
-use Rattle.update.specs.declared.ListAnswer.{ListAnswer}
-use Rattle.update.specs.declared.ListAnswer.TheVariants.{Listed}
-use Rattle.update.specs.Update.{list_numbers, is_listed, over, writes_of}
+use Rattle.update.specs.Update.{ListAnswer, listed, list_numbers, is_listed, over, writes_of}
 use Rattle.rounds.specs.Round.{bytes_all, count_all, pinned, share_of, round_list, part_at, round_parts, round_answer, round_buffer, round_room}
 use Rattle.rounds.proofs.ListLaws.{AllReady, round_length, round_n, round_t, round_transactions}
 use Rattle.rounds.proofs.DealLaws.{Takes, round_takes, part_is, four_parts, round_bytes, round_share, parts_ready}
@@ -126,10 +124,10 @@ module _ (m b p : ℕ → ℕ) (o : (k : ℕ) → k < 4 → opens (m k) (b k) (p
 
   -- what is owed of it
   pub round_owes : (s : ℕ → List ℕ) (w : ℕ → World) → AllHold m b p s w → (present : ℕ → Bool) (limit : ℕ) (buffer : List ℕ) (n t : ℕ) →
-      bus_answer w (round present limit buffer) ≡ answers.TheVariants.List (Listed n t) →
+      bus_answer w (round present limit buffer) ≡ answers.TheVariants.List (listed n t) →
       RoundOwed b p w present limit (list_of_round w present limit buffer n t) n t
   round_owes s w h present limit buffer n t e =
-      let answer : round_answer present (hosts_of w) limit (length buffer) ≡ Listed n t = ap list_of e in
+      let answer : round_answer present (hosts_of w) limit (length buffer) ≡ listed n t = ap list_of e in
       let accepted : accepts present limit (length buffer) w ≡ true = ap is_listed answer in
       let q : Takes present (hosts_of w) limit (length buffer) = round_takes present (hosts_of w) limit (length buffer) accepted in
       let parts : List (List Burst) = round_parts present (hosts_of w) limit in

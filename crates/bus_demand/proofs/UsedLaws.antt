@@ -8,8 +8,7 @@ use Rattle.std.proofs.Math.Bool.{true}
 use mathlib.Core.List.{List, [], ◌∷◌, ◌++◌}
 use Rattle.map.specs.Refusals.{opens}
 use Rattle.burst.specs.Burst.{Burst}
-use Rattle.update.specs.declared.ListAnswer.{ListAnswer}
-use Rattle.update.specs.Update.{is_listed}
+use Rattle.update.specs.Update.{ListAnswer, is_listed}
 use Rattle.chip.specs.Chip.{feed_of}
 use Rattle.rounds.specs.Round.{round_list, part_at, takes, round_parts, round_answer, round_record, round_room}
 use Rattle.rounds.specs.AbsentLaws.{parts_same, answer_same}

@@ -7,8 +7,7 @@ use Rattle.burst.specs.Burst.{n_of, t_of, transactions}
 use Rattle.plan.specs.Lists.{All}
 use Rattle.plan.specs.Portion.{portion, Begins}
 use Rattle.calls.specs.declared.Request.TheVariants.{Update}
-use Rattle.update.specs.declared.ListAnswer.TheVariants.{Listed}
-use Rattle.update.specs.Update.{writes_of}
+use Rattle.update.specs.Update.{listed, writes_of}
 use Rattle.rounds.specs.Round.{share_of, round_list, part_at, round_parts}
 use Rattle.history.specs.declared.World.{World}
 use Rattle.history.specs.declared.CallAnswer as answers
@@ -34,7 +33,7 @@ module _ (m b p : ℕ → ℕ) where
   -- The calls are those `before`, this round, which is accepted and answers n and t, and those `behind` it.
   pub record Rounds (calls before behind : List BusCall) (present : ℕ → Bool) (limit : ℕ) (buffer : List ℕ) (n t : ℕ) : Type 0 where
     pub calls_are : calls ≡ before ++ (round present limit buffer ∷ behind)
-    pub answers : bus_answer (panels_after m b p before) (round present limit buffer) ≡ answers.TheVariants.List (Listed n t)
+    pub answers : bus_answer (panels_after m b p before) (round present limit buffer) ≡ answers.TheVariants.List (listed n t)
 
 -- the list that a round wrote on the worlds w
 abbrev pub list_of_round : (ℕ → World) → (ℕ → Bool) → ℕ → List ℕ → ℕ → ℕ → List ℕ
