@@ -9,8 +9,8 @@ ghost use Rattle.panel.specs.PanelStep.{panel_of, stepped, panel_step, chip_fed}
 
 use calls::Request;
 
-// One call, as the program makes it: a setting is one of the five functions, which hand it to `capi::set`. The chip loses its power
-// whatever the record answers.
+// One call, as the program makes it, with the pointers of include/lp586x.h, each a parameter as it is there. A setting is one of the
+// five functions, which hand it to `capi::set`. The chip loses its power whatever the record answers.
 pub fn call(
     host: &mut [u8],
     chip: &mut [u8],
@@ -53,6 +53,5 @@ fn feed(answer: u32, chip: &mut [u8], buffer: &[u8], n: u32, t: u32)
         return;
     }
     let size = 4 + 2 * (n as usize) + (t as usize);
-    let list = &buffer[..size];
-    capi::lp586x_chip_feed(chip, list);
+    capi::lp586x_chip_feed(chip, &buffer[..size]);
 }
