@@ -2,18 +2,18 @@
 -- open (`_`) is looked for field by field, through all four panels, and took 0.7 GB.
 -- Assumes nothing.
 use mathlib.Core.Path.{◌≡◌, refl, sym, ap, ◌∙◌, subst}
+use Rattle.std.proofs.Common.{Option, Some, Ok, Err}
 use mathlib.Core.Bool.{Bool, true, false}
-use mathlib.Core.List.{List, [], ◌∷◌}
-use Prim.Native.Nat.{ℕ, ◌+◌, ◌*◌, ◌≤◌, ◌<◌}
+use mathlib.Core.List.{List, []}
+use Prim.Native.Nat.{ℕ, ◌≤◌, ◌<◌}
 use native.Mathlib.Omega.{arith}
-use borrow.Author.Tests.{lt-ltb, le-ltb, le-leb, lt-leb, eq-eqb, ne_eqb}
+use borrow.Author.Tests.{le-leb, lt-leb}
 use lib.ListN.{length, take, replicate, length-take, length-replicate}
 use lib.Seq.{take-length, take_all}
-use Rattle.map.specs.declared.refusals.Numbers as numbers
 use Rattle.map.specs.declared.refusals.Refusal.{Refusal}
 use Rattle.map.specs.Refusals.{refusal_number}
-use Rattle.faults.specs.declared.Answer as faults
-use Rattle.faults.specs.Faults.{faults_answer, faults_result}
+use Rattle.faults.specs.declared.Agreement.{Agreement}
+use Rattle.faults.specs.Faults.{Answer, faults_answer, faults_result}
 use Rattle.host.specs.declared.Record.{Record}
 use Rattle.text.specs.Text.{Puts, placed, place_after, decimal_text}
 use Rattle.text.specs.TextLaws.{puts_then, puts_as}
@@ -25,8 +25,7 @@ use Rattle.script.specs.Lines.{without_cr, is_silent, line_of}
 use Rattle.script.specs.LineLaws.{AsideFits, Fits, fits}
 use Rattle.replies.specs.declared.Reply.TheVariants.{Lent}
 use Rattle.replies.specs.Replies.{reply_line, echo_line}
-use Rattle.listing.specs.Show.{list_text}
-use Rattle.pictures.specs.Pictures.{faults_text, differences_text}
+use Rattle.pictures.specs.Pictures.{faults_text}
 use Rattle.session.specs.declared.outcomes.Outcome.{Outcome}
 use Rattle.session.specs.declared.Session.{Session}
 use Rattle.session.specs.Run.{Does, effect_of}
@@ -35,23 +34,8 @@ use Rattle.booth.specs.declared.Booth.{Booth}
 use Rattle.booth.specs.declared.BoothRounded.{BoothRounded}
 use Rattle.booth.specs.Booth.{current_of, with_current, rounded_booth, round_lent}
 use Rattle.player.specs.declared.Player.{Player}
-use Rattle.player.specs.Play.{with_booth, session_of, with_session, counted_from, counted, fresh_buffer, effect, command_line, size_by, kept_size, keeping, after_effect, after_command, readings_answer, fault_map_by, fault_map_text, differences_of, last_list_text, zero_line, aside_line, after_aside, after_panel, rounded, round_shown, round_line, after_round, echo_text, line_text_by, line_text, after_by, after_line, player_after, echoed_text, printed, longest_text, longest_line}
+use Rattle.player.specs.Play.{with_booth, session_of, with_session, written, counted, fresh_buffer, effect, command_line, size_by, kept_size, keeping, after_effect, after_command, readings_answer, fault_map_by, fault_map_text, zero_line, aside_line, after_aside, after_panel, rounded, round_shown, round_line, after_round, echo_text, line_text_by, line_text, after_by, after_line, player_after, echoed_text, printed, longest_text, longest_line}
 use Rattle.player.specs.PlayLaws.{aside_most, round_most_lem, printed_most}
-
--- ---- counting
-
-pub counted_more : (n : ℕ) → n < 4294967295 → n + 1 ≡ counted_from n
-unfolding counted_from
-counted_more n h = rw (lt-ltb n 4294967295 h) refl
-
-pub counted_no_more : (n : ℕ) → 4294967295 ≤ n → 4294967295 ≡ counted_from n
-unfolding counted_from
-counted_no_more n h = rw (le-ltb n 4294967295 h) refl
-
-pub counted_is : (p : Player) (n : ℕ) → n ≡ counted_from p.lines →
-    record { booth = p.booth; echo = p.echo; lines = n; list = p.list; listed = p.listed; bus = p.bus } ≡ counted p
-unfolding counted
-counted_is p n e = rw e refl
 
 -- ---- the echo
 
@@ -80,36 +64,15 @@ module _ (text : List ℕ) (at : ℕ) where
 
 -- ---- the last list
 
-pub size_other : (n : numbers.Numbers) → (n.number ≡ 0 → ⊥) → 0 ≡ size_by n
-unfolding size_by
-size_other n h = rw (ne_eqb n.number 0 h) refl
-
-module _ (n : numbers.Numbers) (h : n.number ≡ 0) where
-  pub size_first : 65536 ≤ n.first → 0 ≡ size_by n
-  unfolding size_by
-  size_first l = rw (eq-eqb n.number 0 h, le-ltb n.first 65536 l) refl
-
-  pub size_second : n.first < 65536 → 65536 ≤ n.second → 0 ≡ size_by n
-  unfolding size_by
-  size_second k l = rw (eq-eqb n.number 0 h, lt-ltb n.first 65536 k, le-ltb n.second 65536 l) refl
-
-  pub size_is : n.first < 65536 → n.second < 65536 → 4 + 2 * n.first + n.second ≡ size_by n
-  unfolding size_by
-  size_is k l = rw (eq-eqb n.number 0 h, lt-ltb n.first 65536 k, lt-ltb n.second 65536 l) refl
-
 module _ (p : Player) (k : ℕ) (shown : List ℕ) (bus : ℕ) where
-  pub keep_none : k ≡ 0 → p ≡ keeping p k shown bus
+  pub keep_short : length shown < k → p ≡ keeping p (Some k) shown bus
   unfolding keeping
-  keep_none e = rw e refl
+  keep_short h = rw (lt-leb k (length shown) h) refl
 
-  pub keep_short : length shown < k → p ≡ keeping p k shown bus
-  unfolding keeping
-  keep_short h = rw (lt-ltb 0 k (omega arith), lt-leb k (length shown) h) refl
-
-  pub keep_put : (new : List ℕ) (n : ℕ) → (k ≡ 0 → ⊥) → k ≤ length shown → Puts p.list 0 (take k shown) new n →
-      record { booth = p.booth; echo = p.echo; lines = p.lines; list = new; listed = n; bus = bus } ≡ keeping p k shown bus
-  unfolding keeping
-  keep_put new n z h put = rw (lt-ltb 0 k (omega arith), le-leb k (length shown) h, put.buffer, put.place) refl
+  pub keep_put : (new : List ℕ) (n : ℕ) → k ≤ length shown → Puts (replicate 4684 0) 0 (take k shown) new n →
+      record p { last = Some (record { bytes = new; length = n; bus = bus }) } ≡ keeping p (Some k) shown bus
+  unfolding keeping written
+  keep_put new n h put = rw (le-leb k (length shown) h, put.buffer, put.place) refl
 
 -- ---- the buffer that is lent
 
@@ -119,7 +82,7 @@ fresh_length f e = ap length e ∙ length-replicate {A = ℕ} 8192 0xA5
 
 -- ---- a command: f is the buffer before it and e after it
 
-pub command_played : (p : Player) (s : Session) (c : Command) (l f e : List ℕ) (r : Outcome) (b : Booth) (old new : List ℕ) (at n k : ℕ) (q : Player) →
+pub command_played : (p : Player) (s : Session) (c : Command) (l f e : List ℕ) (r : Outcome) (b : Booth) (old new : List ℕ) (at n : ℕ) (k : Option ℕ) (q : Player) →
     f ≡ fresh_buffer → Run c ≡ line_of l → s ≡ current_of p.booth → length e ≡ 8192 → Does r e (effect_of s c l f) → b ≡ with_current p.booth r.session →
     Puts old at (reply_line r.reply (take r.shown e)) new n → k ≡ kept_size c r.reply →
     q ≡ keeping (with_booth p b) k (take r.shown e) r.session.world.host.header.bus →
@@ -134,7 +97,7 @@ command_played p s c l f e r b old new at n k q ef is es h d eb put ek eq =
 
 -- ---- a round: e is the buffer after it, of which the first k bytes were lent
 
-pub round_put : (p : Player) (m limit k : ℕ) (f e : List ℕ) (r : BoothRounded) (old new : List ℕ) (at n size : ℕ) (q : Player) → f ≡ fresh_buffer → length e ≡ 8192 →
+pub round_put : (p : Player) (m limit k : ℕ) (f e : List ℕ) (r : BoothRounded) (old new : List ℕ) (at n : ℕ) (size : Option ℕ) (q : Player) → f ≡ fresh_buffer → length e ≡ 8192 →
     r ≡ rounded_booth p.booth m limit (take k f) → take k e ≡ round_lent p.booth m limit (take k f) →
     Puts old at (reply_line (Lent r.numbers) (take k e)) new n → size ≡ size_by r.numbers → q ≡ keeping (with_booth p r.booth) size (take k e) 0 →
     (q ≡ after_round p m limit k) × (Puts old at (round_line p m limit k) new n × (length (round_line p m limit k) ≤ longest_text))
@@ -148,39 +111,14 @@ round_put p m limit k f e r old new at n size q ef h er₀ el₀ put es eq =
 
 -- ---- asides
 
-pub differences_void : (s : Session) → s.valid ≡ false → 0x3F ∷ [] ≡ differences_of s
-unfolding differences_of
-differences_void s e = rw e refl
-
-pub differences_shown : (s : Session) → s.valid ≡ true → differences_text s.ledger.member s.world.chip.registers s.ledger.bytes ≡ differences_of s
-unfolding differences_of
-differences_shown s e = rw e refl
-
-module _ (bus : ℕ) (list : List ℕ) (k : ℕ) where
-  pub list_none : k ≡ 0 → 0x3F ∷ [] ≡ last_list_text bus list k
-  unfolding last_list_text
-  list_none e = rw e refl
-
-  pub list_long : 4684 < k → 0x3F ∷ [] ≡ last_list_text bus list k
-  unfolding last_list_text
-  list_long h = rw (lt-ltb 0 k (omega arith), lt-leb k 4684 h) refl
-
-  pub list_past : (k ≡ 0 → ⊥) → k ≤ 4684 → length list < k → 0x3F ∷ [] ≡ last_list_text bus list k
-  unfolding last_list_text
-  list_past z h l = rw (lt-ltb 0 k (omega arith), le-leb k 4684 h, lt-leb k (length list) l) refl
-
-  pub list_shown : (k ≡ 0 → ⊥) → k ≤ 4684 → k ≤ length list → list_text bus (take k list) ≡ last_list_text bus list k
-  unfolding last_list_text
-  list_shown z h l = rw (lt-ltb 0 k (omega arith), le-leb k 4684 h, le-leb k (length list) l) refl
-
 -- Faults with room for 198 readings
-module _ (r : Record) (bytes given readings : List ℕ) (answer : faults.Answer) (eg : given ≡ bytes) (ea : answer ≡ faults_answer r given (replicate 198 0))
+module _ (r : Record) (bytes given readings : List ℕ) (answer : Answer) (eg : given ≡ bytes) (ea : answer ≡ faults_answer r given (replicate 198 0))
     (er : readings ≡ faults_result r given (replicate 198 0)) where
-  pub map_read : (o s : Bool) → answer ≡ faults.TheVariants.Read o s → faults_text r.header.member readings ≡ fault_map_text r bytes
+  pub map_read : (g : Agreement) → answer ≡ Ok g → faults_text r.header.member readings ≡ fault_map_text r bytes
   unfolding fault_map_text readings_answer fault_map_by
-  map_read o s e = rw (← eg, ← ea, ← er, e) refl
+  map_read g e = rw (← eg, ← ea, ← er, e) refl
 
-  pub map_refused : (x : Refusal) → answer ≡ faults.TheVariants.Refused x → decimal_text (refusal_number x) ≡ fault_map_text r bytes
+  pub map_refused : (x : Refusal) → answer ≡ Err x → decimal_text (refusal_number x) ≡ fault_map_text r bytes
   unfolding fault_map_text readings_answer fault_map_by
   map_refused x e = rw (← eg, ← ea, ← er, e) refl
 

@@ -1,12 +1,12 @@
 -- A line of a script, played: what it does to the player, and what it prints. p is a player, l a line, 0Ah is LF, 3Fh `?`.
 -- Assumes nothing.
-use Rattle.std.specs.Prelude.{Bool, true, false, cond, not, ◌&&◌, List, [], ◌∷◌, ◌++◌, ℕ, ◌+◌, ◌*◌, ltb, leb, eqb, length, take, replicate}
+use Rattle.std.specs.Prelude.{Bool, true, false, cond, not, ◌&&◌, List, [], ◌∷◌, ◌++◌, Option, Some, None, Ok, Err, ℕ, ◌+◌, ◌*◌, ltb, leb, eqb, min, get_or, length, take, replicate}
 use Rattle.map.specs.declared.refusals.Numbers as numbers
 use Rattle.map.specs.Refusals.{refusal_number}
-use Rattle.faults.specs.declared.Answer as faults
-use Rattle.faults.specs.Faults.{faults_answer, faults_result}
+use Rattle.faults.specs.Faults.{Answer, faults_answer, faults_result}
 use Rattle.host.specs.declared.Record.{Record}
 use Rattle.history.specs.declared.World.{World}
+use Rattle.history.specs.declared.Ledger.{Ledger}
 use Rattle.text.specs.Text.{placed, place_after, decimal_text}
 use Rattle.script.specs.declared.command.Command.{Command}
 use Rattle.script.specs.declared.command.Command.TheVariants as commands
@@ -32,16 +32,17 @@ use Rattle.booth.specs.declared.Booth.{Booth}
 use Rattle.booth.specs.declared.BoothRounded.{BoothRounded}
 use Rattle.booth.specs.Booth.{fresh_booth, current_of, with_current, selected, rounded_booth, round_lent}
 use Rattle.player.specs.declared.Player.{Player}
+use Rattle.player.specs.declared.Written.{Written}
 
 -- ---- The player
 
 -- four panels that are "all at first those of `open 0 0 0`"; no line yet, no echo, and no list
 unfoldable pub fresh : Player
-fresh = record { booth = fresh_booth; echo = false; lines = 0; list = replicate 4684 0; listed = 0; bus = 0 }
+fresh = record { booth = fresh_booth; echo = false; lines = 0; last = None }
 
 -- other panels, and nothing else of the player changes
 unfoldable pub with_booth : Player → Booth → Player
-with_booth p b = record { booth = b; echo = p.echo; lines = p.lines; list = p.list; listed = p.listed; bus = p.bus }
+with_booth p b = record p { booth = b }
 
 -- the session of "the one that all other lines are about"
 unfoldable pub session_of : Player → Session
@@ -57,7 +58,7 @@ counted_from n = cond (ltb n 4294967295) (n + 1) 4294967295
 
 -- "Every line of the script counts"
 unfoldable pub counted : Player → Player
-counted p = record { booth = p.booth; echo = p.echo; lines = counted_from p.lines; list = p.list; listed = p.listed; bus = p.bus }
+counted p = record p { lines = counted_from p.lines }
 
 -- ---- A command
 
@@ -95,37 +96,35 @@ writes_list commands.Pending = false
 writes_list commands.Marks = false
 
 -- the list that an answer of 0, n and t tells of has 4 + 2n + t bytes; n and t have two bytes each
-unfoldable pub size_by : numbers.Numbers → ℕ
-size_by n = cond (eqb n.number 0 && (ltb n.first 65536 && ltb n.second 65536)) (4 + 2 * n.first + n.second) 0
+unfoldable pub size_by : numbers.Numbers → Option ℕ
+size_by x =
+    let n = get_or x.values 1 0 in
+    let t = get_or x.values 2 0 in
+    cond (eqb (get_or x.values 0 0) 0 && (ltb n 65536 && ltb t 65536)) (Some (4 + 2 * n + t)) None
 
--- the length of the list that a reply tells of; 0 where it tells of none
-unfoldable pub listed_size : Reply → ℕ
-listed_size Bad = 0
-listed_size (Numbers n) = 0
+-- the length of the list that a reply tells of, where it tells of one
+unfoldable pub listed_size : Reply → Option ℕ
+listed_size Bad = None
+listed_size (Numbers n) = None
 listed_size (Lent n) = size_by n
-listed_size Bytes = 0
-listed_size Same = 0
-listed_size (Differs a) = 0
-listed_size Free = 0
-listed_size Locked = 0
+listed_size Bytes = None
+listed_size Same = None
+listed_size (Differs a) = None
+listed_size Free = None
+listed_size Locked = None
 
--- "A refused call, `feed`, `faults`, `power` and `open` leave it as it is": the length of the list to keep, 0 where there is none
-unfoldable pub kept_size : Command → Reply → ℕ
-kept_size c r = cond (writes_list c) (listed_size r) 0
+-- "A refused call, `feed`, `faults`, `power` and `open` leave it as it is": the length of the list to keep, where there is one
+unfoldable pub kept_size : Command → Reply → Option ℕ
+kept_size c r = cond (writes_list c) (listed_size r) None
 
--- "the last list that a call wrote": the first k bytes of what it shows, and the bus that its heads are for
-unfoldable pub keeping : Player → ℕ → List ℕ → ℕ → Player
-keeping p k shown bus =
-    cond (ltb 0 k && leb k (length shown))
-    (record {
-      booth = p.booth;
-      echo = p.echo;
-      lines = p.lines;
-      list = placed p.list 0 (take k shown);
-      listed = place_after (length p.list) 0 (take k shown);
-      bus = bus;
-    })
-    p
+-- a list and the bus that its heads are for, in 4,684 bytes
+unfoldable pub written : List ℕ → ℕ → Written
+written list bus = record { bytes = placed (replicate 4684 0) 0 list; length = place_after 4684 0 list; bus = bus }
+
+-- "the last list that a call wrote": the first k bytes of what it shows
+unfoldable pub keeping : Player → Option ℕ → List ℕ → ℕ → Player
+keeping p None shown bus = p
+keeping p (Some k) shown bus = cond (leb k (length shown)) (record p { last = Some (written (take k shown) bus) }) p
 
 -- the player after a command that has this effect: the session that it leaves, and the list that it wrote, with "the record's own bus"
 unfoldable pub after_effect : Player → Command → Effect → Player
@@ -143,25 +142,30 @@ lamps_of w Image = lamps_text w.host.header.member w.host.image
 lamps_of w Chip = lamps_text w.chip.member w.chip.registers
 
 -- Faults of the record r with these bytes, and room for 198 readings
-unfoldable pub readings_answer : Record → List ℕ → faults.Answer
+unfoldable pub readings_answer : Record → List ℕ → Answer
 readings_answer r bytes = faults_answer r bytes (replicate 198 0)
 
 -- "`faultmap BYTES` draws the readings of Faults the same way", or prints the number of its refusal
-unfoldable pub fault_map_by : ℕ → faults.Answer → List ℕ → List ℕ
-fault_map_by m (faults.TheVariants.Read o s) readings = faults_text m readings
-fault_map_by m (faults.TheVariants.Refused r) readings = decimal_text (refusal_number r)
+unfoldable pub fault_map_by : ℕ → Answer → List ℕ → List ℕ
+fault_map_by m (Ok g) readings = faults_text m readings
+fault_map_by m (Err r) readings = decimal_text (refusal_number r)
 
 -- of the record's 198 readings with these bytes
 unfoldable pub fault_map_text : Record → List ℕ → List ℕ
 fault_map_text r bytes = fault_map_by r.header.member (readings_answer r bytes) (faults_result r bytes (replicate 198 0))
 
 -- "`diff` lists every writable register in which the chip and the ledger differ", and prints `?` where the ledger is void
+unfoldable pub differences_by : List ℕ → Option Ledger → List ℕ
+differences_by registers (Some g) = differences_text g.member registers g.bytes
+differences_by registers None = 0x3F ∷ []
+
 unfoldable pub differences_of : Session → List ℕ
-differences_of s = cond s.valid (differences_text s.ledger.member s.world.chip.registers s.ledger.bytes) (0x3F ∷ [])
+differences_of s = differences_by s.world.chip.registers s.ledger
 
 -- "`list` .. shows the last list that a call wrote in showlist's form, on one line with ` / ` between transactions", and `?` before the first
-unfoldable pub last_list_text : ℕ → List ℕ → ℕ → List ℕ
-last_list_text bus list k = cond (ltb 0 k && (leb k 4684 && leb k (length list))) (list_text bus (take k list)) (0x3F ∷ [])
+unfoldable pub last_list_text : Option Written → List ℕ
+last_list_text None = 0x3F ∷ []
+last_list_text (Some w) = list_text w.bus (take (min w.length 4684) w.bytes)
 
 -- a line that prints `0`
 abbrev pub zero_line : List ℕ
@@ -174,11 +178,11 @@ aside_line p (Echo on) l = zero_line
 aside_line p (Lamps part) l = lamps_of (session_of p).world part ++ (0x0A ∷ [])
 aside_line p (FaultMap k) l = fault_map_text (session_of p).world.host (bytes_of (word_at l k)) ++ (0x0A ∷ [])
 aside_line p Diff l = differences_of (session_of p) ++ (0x0A ∷ [])
-aside_line p LastList l = last_list_text p.bus p.list p.listed ++ (0x0A ∷ [])
+aside_line p LastList l = last_list_text p.last ++ (0x0A ∷ [])
 
 -- "`echo on` .., `echo off` ends that"
 unfoldable pub with_echo : Player → Bool → Player
-with_echo p on = record { booth = p.booth; echo = on; lines = p.lines; list = p.list; listed = p.listed; bus = p.bus }
+with_echo p on = record p { echo = on }
 
 -- "lines for people, which change neither the record nor the chip": `echo` alone changes the player
 unfoldable pub after_aside : Player → asides.Aside → Player

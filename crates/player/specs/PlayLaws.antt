@@ -1,16 +1,18 @@
 -- Laws of Play.antt: `list` shows the last list whole; what an aside or a round prints has no more bytes than the longest line of an update,
 -- and no line prints more than 24,603.
 -- Assumes nothing.
-use Rattle.std.specs.Prelude.{◌≡◌, refl, Bool, true, false, cond, not, ◌&&◌, List, [], ◌∷◌, ◌++◌, ℕ, ◌+◌, ◌*◌, ◌^◌, ◌≤◌, ◌<◌, ltb, leb, eqb, length, take}
-use Rattle.std.proofs.Common.{◌∙◌, arith, lt-ltb, le-ltb, le-leb, leb-true, length-append, length-take, length-take-le}
+use Rattle.std.specs.Prelude.{◌≡◌, Bool, true, false, cond, not, ◌&&◌, List, [], ◌∷◌, ◌++◌, Option, Some, None, Ok, Err, ℕ, ◌+◌, ◌*◌, ◌^◌, ◌≤◌, ◌<◌, ltb, eqb, min, get_or, length, take, replicate}
+use Rattle.std.proofs.lemmas.List.{length-replicate}
+use Rattle.std.proofs.Common.{ap, arith, lt-ltb, le-ltb, le-leb, length-append, length-take, length-take-le}
 use Rattle.std.proofs.Math.Decide.{dec_lt}
 use Rattle.map.specs.declared.refusals.Numbers as numbers
 use Rattle.map.specs.Refusals.{numbers_in}
 use Rattle.map.specs.RefusalLaws.{refusal_small}
-use Rattle.faults.specs.declared.Answer as faults
+use Rattle.faults.specs.Faults.{Answer}
 use Rattle.history.specs.declared.World.{World}
+use Rattle.history.specs.declared.Ledger.{Ledger}
 use Rattle.text.specs.Text.{placed, place_after, decimal_text, bytes_text}
-use Rattle.text.specs.TextLaws.{placed_length, placed_room, after_room, decimal_length, bytes_length}
+use Rattle.text.specs.TextLaws.{placed_room, after_room, decimal_length, bytes_length}
 use Rattle.script.specs.declared.command.Part.{Part}
 use Rattle.script.specs.declared.command.Part.TheVariants.{Settings, Image, Chip}
 use Rattle.script.specs.declared.command.Aside as asides
@@ -21,12 +23,12 @@ use Rattle.script.specs.Lines.{without_cr, is_silent}
 use Rattle.replies.specs.Replies.{numbers_text, lent_text, reply_text, reply_line, echo_line}
 use Rattle.listing.specs.Show.{list_text}
 use Rattle.listing.specs.ShowLaws.{list_short}
-use Rattle.pictures.specs.Pictures.{differences_text}
 use Rattle.pictures.specs.PictureLaws.{lamps_most, faults_most, differences_most}
 use Rattle.session.specs.declared.Session.{Session}
 use Rattle.booth.specs.RoundLaws.{round_numbers, round_list_lem}
 use Rattle.player.specs.declared.Player.{Player}
-use Rattle.player.specs.Play.{with_booth, counted_from, counted, session_of, fresh_buffer, size_by, rounded, round_shown, round_line, after_round, lamps_of, fault_map_by, fault_map_text, differences_of, last_list_text, keeping, aside_line, echo_text, line_text, echoed_text, printed, longest_text, longest_line}
+use Rattle.player.specs.declared.Written.{Written}
+use Rattle.player.specs.Play.{with_booth, written, counted_from, counted, session_of, fresh_buffer, size_by, rounded, round_shown, round_line, after_round, lamps_of, fault_map_by, fault_map_text, differences_by, differences_of, last_list_text, keeping, aside_line, echo_text, line_text, echoed_text, printed, longest_text, longest_line}
 
 -- ---- asides
 
@@ -36,46 +38,42 @@ lamps_of_lem w Settings = lamps_most _ _
 lamps_of_lem w Image = lamps_most _ _
 lamps_of_lem w Chip = lamps_most _ _
 
-fault_map : (m : ℕ) (answer : faults.Answer) (readings : List ℕ) → length (fault_map_by m answer readings) ≤ 208
+fault_map : (m : ℕ) (answer : Answer) (readings : List ℕ) → length (fault_map_by m answer readings) ≤ 208
 unfolding fault_map_by
-fault_map m (faults.TheVariants.Read o s) readings = faults_most m readings
-fault_map m (faults.TheVariants.Refused r) readings = omega (arith, decimal_length 1 _ (refusal_small r))
+fault_map m (Ok g) readings = faults_most m readings
+fault_map m (Err r) readings = omega (arith, decimal_length 1 _ (refusal_small r))
+
+differences_by_lem : (registers : List ℕ) (ledger : Option Ledger) → length (differences_by registers ledger) ≤ 6939
+unfolding differences_by
+differences_by_lem registers (Some g) = differences_most _ _ _
+differences_by_lem registers None = omega arith
 
 differences_of_lem : (s : Session) → length (differences_of s) ≤ 6939
 unfolding differences_of
-differences_of_lem s = go s.valid
-  where
-    text : List ℕ
-    text = differences_text s.ledger.member s.world.chip.registers s.ledger.bytes
-
-    go : (b : Bool) → length (cond b text (0x3F ∷ [])) ≤ 6939
-    go true = differences_most _ _ _
-    go false = omega arith
+differences_of_lem s = differences_by_lem s.world.chip.registers s.ledger
 
 -- a list of at most 4,684 bytes
-last_list : (bus : ℕ) (list : List ℕ) (k : ℕ) → length (last_list_text bus list k) ≤ 14063
+last_list : (last : Option Written) → length (last_list_text last) ≤ 14063
 unfolding last_list_text
-last_list bus list k = go (ltb 0 k) (leb k 4684) (leb k (length list)) refl
-  where
-    go : (a b c : Bool) → leb k 4684 ≡ b → length (cond (a && (b && c)) (list_text bus (take k list)) (0x3F ∷ [])) ≤ 14063
-    go true true true e = omega (arith, list_short bus (take k list), length-take k list, leb-true k 4684 e)
-    go true true false e = omega arith
-    go true false c e = omega arith
-    go false b c e = omega arith
+last_list None = omega arith
+last_list (Some w) = omega (arith, list_short w.bus (take (min w.length 4684) w.bytes), length-take (min w.length 4684) w.bytes)
+
+-- a list that has room is kept whole
+kept_whole : (xs : List ℕ) (k : ℕ) → length xs ≡ k → k ≤ 4684 → take (min (place_after 4684 0 xs) 4684) (placed (replicate 4684 0) 0 xs) ≡ xs
+kept_whole xs k size fits =
+    let none : List ℕ = replicate 4684 0 in
+    let room : 0 + length xs ≤ length none = omega (arith, length-replicate {A = ℕ} 4684 0) in
+    let place : place_after 4684 0 xs ≡ 0 + length xs = after_room 4684 0 xs (omega arith) in
+    let end : min (0 + length xs) 4684 ≡ 0 + length xs = omega arith in
+    rw (place, end) (placed_room none 0 xs room)
 
 -- "`list` shows the last list that a call wrote": behind a call that left k bytes of one, all of it, with the heads of that bus
-pub list_shows : (p : Player) (k : ℕ) (shown l : List ℕ) (bus : ℕ) → 0 < k → k ≤ 4684 → k ≤ length shown → length p.list ≡ 4684 →
-    aside_line (keeping p k shown bus) LastList l ≡ list_text bus (take k shown) ++ (0x0A ∷ [])
-unfolding aside_line last_list_text keeping
-list_shows p k shown l bus some fits there size =
-    let xs : List ℕ = take k shown in
-    let whole : length xs ≡ k = length-take-le k shown there in
-    let room : 0 + length xs ≤ length p.list = omega (arith, whole) in
-    let none : 0 + length xs ≡ k = omega (arith, whole) in
-    let place : place_after (length p.list) 0 xs ≡ k = after_room (length p.list) 0 xs room ∙ none in
-    let inside : k ≤ length (placed p.list 0 xs) = omega (arith, placed_length p.list 0 xs) in
-    let bytes : take k (placed p.list 0 xs) ≡ xs = rw none at (placed_room p.list 0 xs room) in
-    rw (lt-ltb 0 k some, le-leb k (length shown) there, place, lt-ltb 0 k some, le-leb k 4684 fits, le-leb k (length (placed p.list 0 xs)) inside, bytes) refl
+pub list_shows : (p : Player) (k : ℕ) (shown l : List ℕ) (bus : ℕ) → k ≤ 4684 → k ≤ length shown →
+    aside_line (keeping p (Some k) shown bus) LastList l ≡ list_text bus (take k shown) ++ (0x0A ∷ [])
+unfolding aside_line last_list_text keeping written
+list_shows p k shown l bus fits there =
+    rw (le-leb k (length shown) there)
+    (ap (λ (xs : List ℕ). list_text bus xs ++ (0x0A ∷ [])) (kept_whole (take k shown) k (length-take-le k shown there) fits))
 
 pub aside_most : (p : Player) (x : asides.Aside) (l : List ℕ) → length (aside_line p x l) ≤ longest_text
 unfolding aside_line fault_map_text
@@ -87,7 +85,7 @@ aside_most p (FaultMap k) l =
     let most : length text ≤ 208 = fault_map (session_of p).world.host.header.member _ _ in
     omega (arith, length-append text (0x0A ∷ []), most)
 aside_most p Diff l = omega (arith, length-append (differences_of (session_of p)) (0x0A ∷ []), differences_of_lem (session_of p))
-aside_most p LastList l = omega (arith, length-append (last_list_text p.bus p.list p.listed) (0x0A ∷ []), last_list p.bus p.list p.listed)
+aside_most p LastList l = omega (arith, length-append (last_list_text p.last) (0x0A ∷ []), last_list p.last)
 
 -- ---- a round
 
@@ -105,24 +103,24 @@ round_most_lem p m limit n h =
       bytes_length 16384 shown (omega arith) (omega arith),
     )
 
--- the list that an answer tells of has no more bytes than its n and t say
-size_within : (x : numbers.Numbers) → size_by x ≤ 4 + 2 * x.first + x.second
+-- the list that an answer tells of has as many bytes as its n and t say
+size_within : (x : numbers.Numbers) (k : ℕ) → size_by x ≡ Some k → k ≡ 4 + 2 * get_or x.values 1 0 + get_or x.values 2 0
 unfolding size_by
-size_within x = go (eqb x.number 0 && (ltb x.first 65536 && ltb x.second 65536))
+size_within x k = go (eqb (get_or x.values 0 0) 0 && (ltb (get_or x.values 1 0) 65536 && ltb (get_or x.values 2 0) 65536))
   where
-    go : (b : Bool) → cond b (4 + 2 * x.first + x.second) 0 ≤ 4 + 2 * x.first + x.second
-    go true = omega arith
-    go false = omega arith
+    go : (b : Bool) → cond b (Some (4 + 2 * get_or x.values 1 0 + get_or x.values 2 0)) None ≡ Some k → k ≡ 4 + 2 * get_or x.values 1 0 + get_or x.values 2 0
+    go true e = cc
+    go false e = cc
 
 -- "`list` shows the last list that a call wrote": behind an accepted round, all of it, with the heads of bus 0
-pub round_shows : (p : Player) (m limit n : ℕ) (l : List ℕ) → 0 < size_by (rounded p m limit n).numbers →
-    size_by (rounded p m limit n).numbers ≤ length (round_shown p m limit n) → length p.list ≡ 4684 →
-    aside_line (after_round p m limit n) LastList l ≡ list_text 0 (take (size_by (rounded p m limit n).numbers) (round_shown p m limit n)) ++ (0x0A ∷ [])
+pub round_shows : (p : Player) (m limit n : ℕ) (l : List ℕ) (k : ℕ) → size_by (rounded p m limit n).numbers ≡ Some k → k ≤ length (round_shown p m limit n) →
+    aside_line (after_round p m limit n) LastList l ≡ list_text 0 (take k (round_shown p m limit n)) ++ (0x0A ∷ [])
 unfolding after_round with_booth rounded
-round_shows p m limit n l some there size =
+round_shows p m limit n l k some there =
     let most = round_list_lem p.booth m limit (take n fresh_buffer) in
-    list_shows (with_booth p (rounded p m limit n).booth) (size_by (rounded p m limit n).numbers) (round_shown p m limit n) l 0 some
-    (omega (arith, size_within (rounded p m limit n).numbers)) there size
+    rw some
+    (list_shows (with_booth p (rounded p m limit n).booth) k (round_shown p m limit n) l 0
+    (omega (arith, size_within (rounded p m limit n).numbers k some)) there)
 
 -- ---- any line
 

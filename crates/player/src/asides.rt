@@ -6,8 +6,7 @@ ghost use Rattle.script.specs.Words.{word_at};
 ghost use Rattle.script.specs.Bytes.{bytes_of};
 ghost use Rattle.player.specs.Play.{echo_text, lamps_of, fault_map_text, differences_of, last_list_text, aside_line, after_aside};
 
-use crate::{LIST, Played, Player};
-use faults::Answer;
+use crate::{LIST, Played, Player, Written};
 use history::World;
 use host::Record;
 use script::{Aside, Part};
@@ -17,40 +16,30 @@ use session::Session;
 fn echoed(line: &[u8]) -> usize
     ensures { (result ≤ length line.now) × (take result line.now ≡ take 8192 line.now) }
 {
-    if script::LONGEST < line.len() {
-        return script::LONGEST;
-    }
-    line.len()
+    script::LONGEST.min(line.len())
 }
 
 // Where lines are echoed, the number of a line and its bytes; nothing of a comment or an empty line.
+#[tactic(auto, unfolding(crate::specs::Play::echo_text, text::specs::Text::placed, text::specs::Text::place_after))]
 pub(crate) fn put_echo(echo: bool, number: usize, line: &[u8], text: &mut [u8], at: usize) -> usize
     ensures { Puts text.old at (echo_text echo number line.now) text.new result }
 {
-    if script::is_silent(line) {
+    if !echo || script::is_silent(line) {
         return at;
     }
-    if echo {
-        let n = echoed(line);
-        return replies::put_echo(text, at, number, &line[..n]);
-    }
-    at
+    replies::put_echo(text, at, number, &line[..echoed(line)])
 }
 
 // `lamps W`
+#[tactic(auto, unfolding(crate::specs::Play::lamps_of))]
 fn put_lamps(world: World, part: Part, text: &mut [u8], at: usize) -> usize
     ensures { Puts text.old at (lamps_of world part) text.new result }
 {
-    let host = world.host;
-    let chip = world.chip;
+    let World { host, chip } = world;
+    let member = host.header.member as usize;
     match part {
-        Part::Settings => pictures::put_lamps(
-            text,
-            at,
-            host.header.member as usize,
-            &host.settings,
-        ),
-        Part::Image => pictures::put_lamps(text, at, host.header.member as usize, &host.image),
+        Part::Settings => pictures::put_lamps(text, at, member, &host.settings),
+        Part::Image => pictures::put_lamps(text, at, member, &host.image),
         Part::Chip => pictures::put_lamps(text, at, chip.member as usize, &chip.registers),
     }
 }
@@ -64,95 +53,64 @@ fn put_fault_map(host: Record, line: &[u8], word: usize, text: &mut [u8], at: us
     let n = session::decode(line, word, &mut given);
     let mut readings = [0u8; 198];
     match faults::faults(host, &given[..n], &mut readings) {
-        Answer::Read {
-            opens_agree: _,
-            shorts_agree: _,
-        } => pictures::put_faults(text, at, host.header.member as usize, &readings),
-        Answer::Refused(refusal) => text::put_decimal(
-            text,
-            at,
-            map::refusal_number(refusal) as usize,
-        ),
+        Ok(_) => pictures::put_faults(text, at, host.header.member as usize, &readings),
+        Err(refusal) => text::put_decimal(text, at, map::refusal_number(refusal) as usize),
     }
 }
 
 // `diff`
+#[tactic(auto, unfolding(crate::specs::Play::differences_of, crate::specs::Play::differences_by))]
 fn put_differences(session: Session, text: &mut [u8], at: usize) -> usize
     ensures { Puts text.old at (differences_of session) text.new result }
 {
-    if session.valid {
-        let ledger = session.ledger;
-        let chip = session.world.chip;
-        return pictures::put_differences(
+    match session.ledger {
+        Some(ledger) => pictures::put_differences(
             text,
             at,
             ledger.member as usize,
-            &chip.registers,
+            &session.world.chip.registers,
             &ledger.bytes,
-        );
+        ),
+        None => text::put(text, at, b'?'),
     }
-    text::put(text, at, b'?')
 }
 
-// `list`: the first `listed` bytes
-fn put_list(bus: usize, list: &[u8], listed: usize, text: &mut [u8], at: usize) -> usize
-    ensures { Puts text.old at (last_list_text bus list.now listed) text.new result }
+// `list`
+fn put_list(last: &Option<Written>, text: &mut [u8], at: usize) -> usize
+    ensures { Puts text.old at (last_list_text last.now) text.new result }
 {
-    if listed == 0 {
-        return text::put(text, at, b'?');
+    match last {
+        Some(list) => listing::put_list(text, at, list.bus, &list.bytes[..list.length.min(LIST)]),
+        None => text::put(text, at, b'?'),
     }
-    if LIST < listed {
-        return text::put(text, at, b'?');
-    }
-    if list.len() < listed {
-        return text::put(text, at, b'?');
-    }
-    listing::put_list(text, at, bus, &list[..listed])
 }
 
 // What an aside prints.
-fn put(player: Player, aside: Aside, line: &[u8], text: &mut [u8], at: usize) -> usize
+fn put(player: &Player, aside: Aside, line: &[u8], text: &mut [u8], at: usize) -> usize
     requires { AsideFits line.now aside }
-    ensures { Puts text.old at (aside_line player aside line.now) text.new result }
+    ensures { Puts text.old at (aside_line player.now aside line.now) text.new result }
 {
     let session = booth::current_session(player.booth);
-    match aside {
-        Aside::Silent => at,
-        Aside::Echo(_) => text::put_text(text, at, b"0\n"),
-        Aside::Lamps(part) => {
-            let next = put_lamps(session.world, part, text, at);
-            text::put(text, next, b'\n')
-        }
-        Aside::FaultMap(word) => {
-            let next = put_fault_map(session.world.host, line, word, text, at);
-            text::put(text, next, b'\n')
-        }
-        Aside::Diff => {
-            let next = put_differences(session, text, at);
-            text::put(text, next, b'\n')
-        }
-        Aside::List => {
-            let next = put_list(player.bus, &player.list, player.listed, text, at);
-            text::put(text, next, b'\n')
-        }
-    }
+    let next = match aside {
+        Aside::Silent => return at,
+        Aside::Echo(_) => text::put(text, at, b'0'),
+        Aside::Lamps(part) => put_lamps(session.world, part, text, at),
+        Aside::FaultMap(word) => put_fault_map(session.world.host, line, word, text, at),
+        Aside::Diff => put_differences(session, text, at),
+        Aside::List => put_list(&player.last, text, at),
+    };
+    text::put(text, next, b'\n')
 }
 
 // The player after an aside: `echo` is kept.
+#[tactic(auto, unfolding(crate::specs::Play::after_aside, crate::specs::Play::with_echo))]
 fn after(mut player: Player, aside: Aside) -> Player
     ensures { result ≡ after_aside player aside }
 {
-    match aside {
-        Aside::Silent => player,
-        Aside::Echo(on) => {
-            player.echo = on;
-            player
-        }
-        Aside::Lamps(_) => player,
-        Aside::FaultMap(_) => player,
-        Aside::Diff => player,
-        Aside::List => player,
+    if let Aside::Echo(on) = aside {
+        player.echo = on;
     }
+    player
 }
 
 // The aside is the line's.
@@ -163,6 +121,6 @@ pub(crate) fn play(player: Player, aside: Aside, line: &[u8], text: &mut [u8], a
 {
     Played {
         player: after(player, aside),
-        at: put(player, aside, line, text, at),
+        at: put(&player, aside, line, text, at),
     }
 }

@@ -22,16 +22,21 @@ pub const LONGEST_LINE: usize = 24603;
 // The most bytes that a list takes: that of a round.
 pub(crate) const LIST: usize = 4684;
 
-// The four panels, whether lines are echoed, the number of the last line, and the last list that a call wrote: its bytes, how many they are, and
-// the bus of the record that wrote it.
+// A list that a call wrote: its bytes, how many they are, and the bus of the record that wrote it.
+#[derive(Clone, Copy)]
+pub struct Written {
+    pub bytes: [u8; LIST],
+    pub length: usize,
+    pub bus: usize,
+}
+
+// The four panels, whether lines are echoed, the number of the last line, and the last list that a call wrote.
 #[derive(Clone, Copy)]
 pub struct Player {
     pub booth: Booth,
     pub echo: bool,
     pub lines: usize,
-    pub list: [u8; LIST],
-    pub listed: usize,
-    pub bus: usize,
+    pub last: Option<Written>,
 }
 
 // The player after a line, and the place of the text behind what the line prints.
@@ -42,21 +47,20 @@ pub struct Played {
 }
 
 // Before the first line.
+#[tactic(auto, unfolding(crate::specs::Play::fresh))]
 pub fn start() -> Player
     ensures { result ≡ fresh }
 {
-    let booth = booth::start();
     Player {
-        booth: booth,
+        booth: booth::start(),
         echo: false,
         lines: 0,
-        list: [0; LIST],
-        listed: 0,
-        bus: 0,
+        last: None,
     }
 }
 
 // The number of the next line.
+#[tactic(auto, unfolding(crate::specs::Play::counted_from))]
 fn next_number(lines: usize) -> usize
     ensures { result ≡ counted_from lines }
 {
@@ -67,6 +71,7 @@ fn next_number(lines: usize) -> usize
     }
 }
 
+#[tactic(auto, unfolding(crate::specs::Play::counted))]
 fn counting(mut player: Player) -> Player
     ensures { result ≡ counted player }
 {

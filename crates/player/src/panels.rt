@@ -16,7 +16,7 @@ pub(crate) fn panel(mut player: Player, place: usize, text: &mut [u8], at: usize
 {
     player.booth = booth::select(player.booth, place);
     Played {
-        player: player,
+        player,
         at: text::put_text(text, at, b"0\n"),
     }
 }
@@ -52,12 +52,10 @@ pub(crate) fn round(
 {
     let mut buffer = fresh_buffer();
     let rounded = round_within(player.booth, marks, limit, room, &mut buffer);
-    let numbers = rounded.numbers;
-    let booth = rounded.booth;
-    player.booth = booth;
-    let end = replies::put_line(text, at, Reply::Lent(numbers), &buffer[..room]);
+    player.booth = rounded.booth;
+    let shown = &buffer[..room];
     Played {
-        player: keep(player, size_by(numbers), &buffer[..room], 0),
-        at: end,
+        at: replies::put_line(text, at, Reply::Lent(rounded.numbers), shown),
+        player: keep(player, size_by(rounded.numbers), shown, 0),
     }
 }

@@ -5,99 +5,82 @@ ghost use Rattle.script.specs.declared.command.Line.TheVariants.{Run};
 ghost use Rattle.script.specs.Lines.{line_of};
 ghost use Rattle.player.specs.Play.{is_room, writes_list, size_by, listed_size, kept_size, keeping, command_line, after_command, longest_text, fresh_buffer};
 
-use crate::{Played, Player};
+use crate::{LIST, Played, Player, Written};
 use map::Numbers;
 use replies::Reply;
 use script::{Command, Lent};
 
+#[tactic(auto, unfolding(crate::specs::Play::is_room))]
 fn is_room(lent: Lent) -> bool
     ensures { result ≡ is_room lent }
 {
-    match lent {
-        Lent::Nothing => false,
-        Lent::Word(_) => false,
-        Lent::Room(_) => true,
-    }
+    matches!(lent, Lent::Room(_))
 }
 
 // Whether a command, where it is accepted, writes a list into the buffer that it is lent.
+#[tactic(auto, unfolding(crate::specs::Play::writes_list))]
 fn writes_list(command: Command) -> bool
     ensures { result ≡ writes_list command }
 {
     match command {
-        Command::Bad => false,
-        Command::Open(_, _, _) => false,
         Command::Call(_, lent) => is_room(lent),
         Command::Clear(_) => true,
-        Command::Feed(_) => false,
-        Command::Faults(_, _) => false,
-        Command::Show(_) => false,
-        Command::Poke(_, _, _) => false,
-        Command::Header(_, _) => false,
-        Command::Check => false,
-        Command::Pending => false,
-        Command::Marks => false,
+        _ => false,
     }
 }
 
-// The size of the list that an answer of 0, n and t tells of; 0 where there is none.
-pub(crate) fn size_by(numbers: Numbers) -> usize
+// The size of the list that an answer of 0, n and t tells of.
+#[tactic(auto, unfolding(crate::specs::Play::size_by))]
+pub(crate) fn size_by(numbers: Numbers) -> Option<usize>
     ensures { result ≡ size_by numbers }
 {
-    if numbers.number != 0 {
-        return 0;
+    let [number, n, t, ..] = numbers.values;
+    if number == 0 && n < 65536 && t < 65536 {
+        Some(4 + 2 * n + t)
+    } else {
+        None
     }
-    if 65536 <= numbers.first {
-        return 0;
-    }
-    if 65536 <= numbers.second {
-        return 0;
-    }
-    4 + 2 * numbers.first + numbers.second
 }
 
-fn listed_size(reply: Reply) -> usize
+#[tactic(auto, unfolding(crate::specs::Play::listed_size))]
+fn listed_size(reply: Reply) -> Option<usize>
     ensures { result ≡ listed_size reply }
 {
     match reply {
-        Reply::Bad => 0,
-        Reply::Numbers(_) => 0,
         Reply::Lent(numbers) => size_by(numbers),
-        Reply::Bytes => 0,
-        Reply::Same => 0,
-        Reply::Differs(_) => 0,
-        Reply::Free => 0,
-        Reply::Locked => 0,
+        _ => None,
     }
 }
 
-fn kept_size(command: Command, reply: Reply) -> usize
+#[tactic(auto, unfolding(crate::specs::Play::kept_size))]
+fn kept_size(command: Command, reply: Reply) -> Option<usize>
     ensures { result ≡ kept_size command reply }
 {
     if writes_list(command) {
-        return listed_size(reply);
+        listed_size(reply)
+    } else {
+        None
     }
-    0
 }
 
-// A list of so many bytes at the front of what is shown is the last one, where it has any, with the bus that its heads are for.
-pub(crate) fn keep(mut player: Player, size: usize, shown: &[u8], bus: usize) -> Player
+// A list of so many bytes at the front of what is shown is the last one, with the bus that its heads are for.
+#[tactic(auto, unfolding(crate::specs::Play::keeping))]
+pub(crate) fn keep(mut player: Player, size: Option<usize>, shown: &[u8], bus: usize) -> Player
     ensures { result ≡ keeping player size shown.now bus }
 {
-    if size == 0 {
-        return player;
+    match size {
+        Some(n) if n <= shown.len() => {
+            let mut bytes = [0; LIST];
+            let length = text::put_text(&mut bytes, 0, &shown[..n]);
+            player.last = Some(Written { bytes, length, bus });
+            player
+        }
+        _ => player,
     }
-    if shown.len() < size {
-        return player;
-    }
-    let mut list = player.list;
-    player.listed = text::put_text(&mut list, 0, &shown[..size]);
-    player.list = list;
-    player.bus = bus;
-    player
 }
 
 // "A buffer of L bytes .. is lent filled with A5h": the first L bytes of this.
+#[tactic(auto, unfolding(crate::specs::Play::fresh_buffer))]
 pub(crate) fn fresh_buffer() -> [u8; session::ROOM]
     ensures { result ≡ fresh_buffer }
 {
@@ -120,18 +103,11 @@ pub(crate) fn run(
     let mut buffer = fresh_buffer();
     let session = booth::current_session(player.booth);
     let outcome = session::run(session, command, line, &mut buffer);
-    let reply = outcome.reply;
-    let shown = outcome.shown;
-    let session = outcome.session;
-    player.booth = booth::with_current(player.booth, session);
-    let end = replies::put_line(text, at, reply, &buffer[..shown]);
+    player.booth = booth::with_current(player.booth, outcome.session);
+    let shown = &buffer[..outcome.shown];
+    let bus = outcome.session.world.host.header.bus as usize;
     Played {
-        player: keep(
-            player,
-            kept_size(command, reply),
-            &buffer[..shown],
-            session.world.host.header.bus as usize,
-        ),
-        at: end,
+        at: replies::put_line(text, at, outcome.reply, shown),
+        player: keep(player, kept_size(command, outcome.reply), shown, bus),
     }
 }

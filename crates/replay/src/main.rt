@@ -7,10 +7,10 @@
 
 mod output;
 
-ghost use Rattle.std.specs.Prelude.{◌≡◌, false, cond, ◌++◌, ◌+◌, ◌≤◌, length, take};
+ghost use Rattle.std.specs.Prelude.{◌≡◌, false, cond, ◌++◌, ◌+◌, ◌≤◌, length, take, IsErr, IfOk, Ok};
 ghost use Rattle.player.specs.Play.{player_after, printed, longest_line};
 
-use output::Output;
+use output::Failed;
 use player::Player;
 use std::io::Read;
 
@@ -21,75 +21,58 @@ const BLOCK: usize = 65536;
 
 const TEXT: usize = 65536;
 
-// What is kept from line to line.
+// What is kept from line to line: the player, the length of the line so far, and how much text waits.
 #[derive(Clone, Copy)]
 struct Reading {
     player: Player,
-    // of the line so far
     length: usize,
-    output: Output,
-    // whether there may be more to read
-    more: bool,
+    at: usize,
 }
 
 fn new_reading() -> Reading
-    ensures { (result.length ≡ 0) × (result.output.at ≡ 0) }
+    ensures { (result.length ≡ 0) × (result.at ≡ 0) }
 {
-    let player = player::start();
-    let output = Output {
-        at: 0,
-        failed: false,
-    };
     Reading {
-        player: player,
+        player: player::start(),
         length: 0,
-        output: output,
-        more: true,
+        at: 0,
     }
 }
 
 // A line that is over: with room for the longest line, all that it prints stands behind the text that waits. The next line is empty
 // so far.
-fn play(mut reading: Reading, line: &[u8], text: &mut [u8]) -> Reading
-    requires { reading.output.at + longest_line ≤ length text.old }
-    ensures player_value { result.player ≡ player_after reading.player line.now }
-    ensures text_after { take result.output.at text.new ≡ take reading.output.at text.old ++ printed reading.player line.now }
-    ensures at_in_bounds { result.output.at ≤ length text.new }
-    ensures length_value { result.length ≡ 0 }
+fn play(reading: &mut Reading, line: &[u8], text: &mut [u8])
+    requires { reading.old.at + longest_line ≤ length text.old }
+    ensures player_value { reading.new.player ≡ player_after reading.old.player line.now }
+    ensures text_after { take reading.new.at text.new ≡ take reading.old.at text.old ++ printed reading.old.player line.now }
+    ensures at_in_bounds { reading.new.at ≤ length text.new }
+    ensures length_value { reading.new.length ≡ 0 }
 {
-    let player = reading.player;
-    let mut output = reading.output;
-    let played = player::play(player, line, text, output.at);
-    let player = played.player;
-    output.at = played.at;
-    reading.player = player;
+    let played = player::play(reading.player, line, text, reading.at);
+    reading.player = played.player;
     reading.length = 0;
-    reading.output = output;
-    reading
+    reading.at = played.at;
 }
 
 // The line, where it is over, is played whole. Behind it there is room for another.
 fn line_ended(
     out: &impl Print,
     err: &impl Print,
-    reading: Reading,
+    reading: &mut Reading,
     over: bool,
     line: &[u8],
     text: &mut [u8],
-) -> Reading
-    requires { (reading.length ≤ length line.now) × (reading.output.at + longest_line ≤ length text.old) }
-    ensures player_value { result.player ≡ cond over (player_after reading.player (take reading.length line.now)) reading.player }
-    ensures length_in_bounds { (result.length ≤ length line.now) × (result.output.at + longest_line ≤ length text.new) }
+) -> Result<(), Failed>
+    requires { (reading.old.length ≤ length line.now) × (reading.old.at + longest_line ≤ length text.old) }
+    ensures player_value { reading.new.player ≡ cond over (player_after reading.old.player (take reading.old.length line.now)) reading.old.player }
+    ensures length_in_bounds { (reading.new.length ≤ length line.now) × (reading.new.at + longest_line ≤ length text.new) }
 {
     if !over {
-        return reading;
+        return Ok(());
     }
     let length = reading.length;
-    let mut reading = play(reading, &line[..length], text);
-    let output = reading.output;
-    let output = output::with_room(out, err, text, output);
-    reading.output = output;
-    reading
+    play(reading, &line[..length], text);
+    output::with_room(out, err, text, &mut reading.at)
 }
 
 // The line so far with these bytes behind it, as many as its buffer has room for. It answers the length.
@@ -109,113 +92,93 @@ fn line_end(block: &[u8], from: usize) -> usize
     from + script::line_length(&block[from..])
 }
 
-// The lines of a block; none after a write that failed.
+// The lines of a block. Each turn goes on behind the line that it played, so that no range counts them.
 fn play_block(
     out: &impl Print,
     err: &impl Print,
-    mut reading: Reading,
+    reading: &mut Reading,
     block: &[u8],
     line: &mut [u8],
     text: &mut [u8],
-) -> Reading
-    requires { (length block.now ≤ 65536) × (reading.length ≤ length line.old) × (reading.output.at + longest_line ≤ length text.old) }
-    ensures { (result.length ≤ length line.new) × (result.output.at + longest_line ≤ length text.new) }
+) -> Result<(), Failed>
+    requires { (length block.now ≤ 65536) × (reading.old.length ≤ length line.old) × (reading.old.at + longest_line ≤ length text.old) }
+    ensures { (reading.new.length ≤ length line.new) × (reading.new.at + longest_line ≤ length text.new) }
 {
     let mut from = 0;
-    while from < block.len() && !reading.output.failed {
+    while from < block.len() {
         let to = line_end(block, from);
         reading.length = lengthened(line, reading.length, &block[from..to]);
-        reading = line_ended(out, err, reading, to < block.len(), line, text);
+        line_ended(out, err, reading, to < block.len(), line, text)?;
         from = to + 1;
     }
-    reading
+    Ok(())
 }
 
-// Nothing more is read, and a line that is not over is not played: it may have been cut.
-fn stopped(mut reading: Reading) -> Reading
-    ensures { (result.more ≡ false) × (result.length ≡ 0) × (result.output.at ≡ reading.output.at) }
-{
-    reading.length = 0;
-    reading.more = false;
-    reading
-}
-
-// After a block, of which so much was read, the text is written.
+// After a block, of which so much was read, the text is written. It answers whether there may be more to read.
 fn block_ended(
     out: &impl Print,
     err: &impl Print,
-    mut reading: Reading,
-    got: Option<usize>,
+    reading: &mut Reading,
+    got: Result<usize, Failed>,
     text: &[u8],
-) -> Reading
-    requires { reading.output.at ≤ length text.now }
-    ensures { (result.length ≤ reading.length) × (result.output.at ≡ 0) }
+) -> Result<bool, Failed>
+    requires { reading.old.at ≤ length text.now }
+    ensures length_value { reading.new.length ≡ reading.old.length }
+    ensures at_value { reading.new.at ≡ 0 }
+    ensures failed { IsErr got → IsErr result }
+    ensures over { got ≡ Ok 0 → IfOk result (λ more. more ≡ false) }
 {
-    let output = reading.output;
-    let output = output::flushed(out, err, text, output);
-    let failed = output.failed;
-    reading.output = output;
-    if failed {
-        return stopped(reading);
-    }
-    match got {
-        Some(n) => {
-            reading.more = 0 < n;
-            reading
-        }
-        None => stopped(reading),
-    }
+    output::flushed(out, err, text, &mut reading.at)?;
+    Ok(0 < got?)
 }
 
 fn play_some(
     input: &mut impl Read,
     out: &impl Print,
     err: &impl Print,
-    reading: Reading,
+    reading: &mut Reading,
     line: &mut [u8],
     text: &mut [u8],
-) -> Reading
-    requires { (reading.length ≤ length line.old) × (reading.output.at + longest_line ≤ length text.old) }
-    ensures { (result.length ≤ length line.new) × (result.output.at + longest_line ≤ length text.new) }
+) -> Result<bool, Failed>
+    requires { (reading.old.length ≤ length line.old) × (reading.old.at + longest_line ≤ length text.old) }
+    ensures { (reading.new.length ≤ length line.new) × (reading.new.at + longest_line ≤ length text.new) }
 {
     let mut block = [0u8; BLOCK];
     let got = output::read_some(input, err, &mut block);
-    let n = got.unwrap_or(0);
-    let reading = play_block(out, err, reading, &block[..n], line, text);
+    play_block(out, err, reading, &block[..got.unwrap_or(0)], line, text)?;
     block_ended(out, err, reading, got, text)
 }
 
-// A proved loop has to end, and nothing says that the input does. So the loop counts its turns down, from a number that no run
-// uses up.
+// A proved loop has to end, and nothing says that the input does. So the loop counts its turns, up to a number that no run uses up.
 fn play_all(
     input: &mut impl Read,
     out: &impl Print,
     err: &impl Print,
     line: &mut [u8],
     text: &mut [u8],
-) -> Reading
+) -> Result<Reading, Failed>
     requires { longest_line ≤ length text.old }
-    ensures { (result.length ≤ length line.new) × (result.output.at + longest_line ≤ length text.new) }
+    ensures { IfOk result (λ reading. (reading.length ≤ length line.new) × (reading.at + longest_line ≤ length text.new)) }
 {
     let mut reading = new_reading();
-    let mut turns = u64::MAX;
-    while 0 < turns && reading.more {
-        reading = play_some(input, out, err, reading, line, text);
-        turns -= 1;
+    for _ in 0..u64::MAX {
+        if !play_some(input, out, err, &mut reading, line, text)? {
+            break;
+        }
     }
-    reading
+    Ok(reading)
 }
 
-fn play_input(input: &mut impl Read, out: &impl Print, err: &impl Print) {
+fn play_input(input: &mut impl Read, out: &impl Print, err: &impl Print) -> Result<(), Failed> {
     let mut line = [0u8; LINE];
     let mut text = [0u8; TEXT];
-    let reading = play_all(input, out, err, &mut line, &mut text);
+    let mut reading = play_all(input, out, err, &mut line, &mut text)?;
     // the last line may lack its LF
     if 0 < reading.length {
-        let reading = line_ended(out, err, reading, true, &line, &mut text);
-        let output = reading.output;
-        output::flushed(out, err, &text, output);
+        line_ended(out, err, &mut reading, true, &line, &mut text)?;
+        output::flushed(out, err, &text, &mut reading.at)?;
     }
+    Ok(())
 }
 
 fn main(rt: HostRuntime) {
@@ -224,5 +187,6 @@ fn main(rt: HostRuntime) {
         output::usage(&err);
         return;
     }
-    play_input(&mut rt.stdin(), &rt, &err);
+    // a line has said what failed
+    let _ = play_input(&mut rt.stdin(), &rt, &err);
 }

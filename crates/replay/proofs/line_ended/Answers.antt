@@ -6,5 +6,5 @@ use Rattle.replay.proofs.line_ended.Goals as goal
 
 pub returns-clause-length_in_bounds : goal.returns-clause-length_in_bounds
 returns-clause-length_in_bounds g c =
-    let room = room_waits _ _ c.play-reading.ensures.at_in_bounds (omega arith) in
-    (omega (arith, c.play-reading.ensures.length_value), omega (arith, c.with_room-output.ensures, room))
+    let room = room_waits _ _ c.play.ensures.at_in_bounds (omega arith) in
+    (omega (arith, c.play.ensures.length_value), omega (arith, c.with_room.ensures, room))

@@ -5,7 +5,7 @@ use Rattle.player.specs.Play.{longest_line}
 use Rattle.replay.proofs.play_block.Given as goal
 
 abbrev pub invariant-loop-from : goal.invariant-loop-from
-invariant-loop-from g l = (l.reading.length ≤ length l.line) × (l.reading.output.at + longest_line ≤ length l.text)
+invariant-loop-from g l = (l.reading.length ≤ length l.line) × (l.reading.at + longest_line ≤ length l.text)
 
 abbrev pub decreases-loop-from : goal.decreases-loop-from
 decreases-loop-from g l = length l.block - l.from

@@ -1,7 +1,8 @@
 -- `player::asides::echoed` meets its contract.
 -- Assumes nothing.
-use Rattle.player.proofs.Steps.{echoed_whole}
+use Rattle.std.proofs.Common.{arith}
+use Rattle.std.proofs.lemmas.List.{take_min}
 use Rattle.player.proofs.asides.echoed.Goals as goal
 
 pub returns : goal.returns
-returns c = echoed_whole c.args.line.now c.if-line-gt-LONGEST.false
+returns c = (omega (arith, c.min.ensures), rw c.min.ensures (take_min 8192 c.args.line.now))

@@ -7,15 +7,12 @@ use Rattle.player.specs.Play.{with_booth}
 use Rattle.player.proofs.Steps.{fresh_length, round_put}
 use Rattle.player.proofs.panels.round.Goals as goal
 
-pub slice_bounds-put_line-end : goal.slice_bounds-put_line-end
-slice_bounds-put_line-end c = sym (length-take-le _ _ (omega (arith, c.requires, c.round_within-rounded.auto.buffer, fresh_length _ c.fresh_buffer-buffer.ensures)))
-
-pub slice_bounds-keep-end : goal.slice_bounds-keep-end
-slice_bounds-keep-end c = sym (length-take-le _ _ (omega (arith, c.requires, c.round_within-rounded.auto.buffer, fresh_length _ c.fresh_buffer-buffer.ensures)))
+pub slice_bounds-shown-end : goal.slice_bounds-shown-end
+slice_bounds-shown-end c = sym (length-take-le _ _ (omega (arith, c.requires, c.round_within-rounded.auto.buffer, fresh_length _ c.fresh_buffer-buffer.ensures)))
 
 pub returns : goal.returns
 unfolding with_booth
 returns c =
     let p = round_put c.args.player c.args.marks c.args.limit c.args.room _ _ c.round_within-rounded.result _ _ _ _ _ _ c.fresh_buffer-buffer.ensures
     (c.round_within-rounded.auto.buffer ∙ fresh_length _ c.fresh_buffer-buffer.ensures) c.round_within-rounded.ensures.value c.round_within-rounded.ensures.buffer_after
-    c.put_line-end.ensures c.size_by.ensures c.keep.ensures in record { player_value = p.0; puts = p.1.0; line_fits = p.1.1 }
+    c.put_line.ensures c.size_by.ensures c.keep.ensures in record { player_value = p.0; puts = p.1.0; line_fits = p.1.1 }
