@@ -31,7 +31,7 @@ pub(crate) fn listed(sent: Sent, chip: Chip, buffer: &[u8]) -> Stepped
     }
 }
 
-// What Update gave back, and the buffer that it left.
+// What Update gave back, and the buffer that it left. (It answers another case than `listed`; one function of five parameters is no plainer.)
 pub(crate) fn updated(updated: Updated, chip: Chip, buffer: &[u8]) -> Stepped
     requires { Within updated.answer (length buffer.now) }
     ensures { leaving result buffer.now ≡ update_step updated buffer.now chip }

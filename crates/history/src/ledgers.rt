@@ -8,7 +8,7 @@ use crate::Ledger;
 use calls::{Request, Setting};
 use host::{Header, Record};
 
-// The number of a member that can be opened, else 0.
+// The number of a member that can be opened, else 0. (A conversion that is filtered is no plainer.)
 fn known(member: usize) -> u8
     ensures { result ≡ cond (ltb member 5) member 0 }
 {
@@ -25,7 +25,7 @@ pub(crate) fn opened(member: usize) -> Ledger
     }
 }
 
-// The ledger after a setting.
+// The ledger after a setting. (The borrow checker wants an array in a variable of its own before it is put into a literal.)
 fn set(ledger: Ledger, setting: Setting, lent: &[u8]) -> Ledger
     ensures { result ≡ entry_of ledger (Set setting) lent.now }
 {

@@ -54,6 +54,7 @@ fn header_with(mut header: Header, entry: Entry, value: u8) -> Header
     header
 }
 
+// (Another struct than the header, and it has no lock.)
 #[tactic(auto, unfolding(crate::specs::Run::chip_with))]
 fn chip_with(mut chip: Chip, entry: Entry, value: u8) -> Chip
     ensures { result ≡ chip_with chip entry value }

@@ -21,7 +21,7 @@ pub fn decode(line: &[u8], word: usize, buffer: &mut [u8]) -> usize
     script::decode(script::word(line, word), buffer)
 }
 
-// What is lent to a call, at the front of the buffer. It answers how many bytes.
+// What is lent to a call, at the front of the buffer. It answers how many bytes, as `decode` does: a lent part of the buffer is no plainer.
 #[tactic(auto, unfolding(crate::specs::Run::lent_of, script::specs::LineLaws::LentFits))]
 fn lend(line: &[u8], lent: Lent, buffer: &mut [u8]) -> usize
     requires { LentFits line.now lent × (length buffer.old ≡ 8192) }
