@@ -2,16 +2,16 @@
 //
 // 000h to 063h are tested by a table of reserved bits, one for each member. Behind them, with n the member's lines: the fault bytes
 // stand at 064h to 0A6h, the currents of n lines from 100h on and the levels of n lines from 200h on, and every byte between and
-// behind is 0. Currents and levels may be any bytes, but for the LP5867: its absent sinks are tested by tables too. No fold stops early, so
+// behind is 0. Currents and levels may be any bytes, but for the LP5867: its absent sinks are tested by tables too. No fold or loop stops early, so
 // that many bytes are taken at once.
 //
 // The tables are constants, each named in one arm of a `match`: by the compiler's hand they are part of the code there. As statics indexed by
-// the member `image_ok` takes 425 instructions and not 411, `put_reset` 143 and not 110.
+// the member `image_ok` takes 425 instructions and not 406, `put_reset` 143 and not 110.
 #![tactic(auto)]
 
 mod tables;
 
-ghost use Rattle.std.specs.Prelude.{◌≡◌, cond, ℕ, ◌*◌, ◌<◌, ◌≤◌, eqb, length};
+ghost use Rattle.std.specs.Prelude.{◌≡◌, cond, ℕ, ◌-◌, ◌*◌, ◌<◌, ◌≤◌, eqb, length};
 ghost use Rattle.map.specs.Lists.{all_from};
 ghost use Rattle.map.specs.Map.{lines_of};
 ghost use Rattle.map.specs.Images.{ok_at, zero_at, image_ok, registers_ok, reset_image};
@@ -30,11 +30,16 @@ fn differing(bytes: &[u8], masks: &[u8], resets: &[u8]) -> u8
     )
 }
 
-// Every byte is 0.
-fn zeros(bytes: &[u8]) -> bool
-    ensures { result ≡ all_from (zero_at bytes.now) 0 (length bytes.now) }
+// Every byte from one address to another is 0. By the address: a fold of the slice takes `image_ok` 411 instructions and not 406.
+fn zeros(image: &[u8], from: usize, to: usize) -> bool
+    requires { (from ≤ to) × (to ≤ length image.now) }
+    ensures { result ≡ all_from (zero_at image.now) from (to - from) }
 {
-    bytes.iter().fold(0, |bits, byte| bits | byte) == 0
+    let mut bits = 0;
+    for address in from..to {
+        bits |= image[address];
+    }
+    bits == 0
 }
 
 // 000h to 063h.
@@ -75,11 +80,11 @@ fn high_ok(member: usize, image: &[u8; 908]) -> bool
     ensures { result ≡ all_from (ok_at member image.now) 0x0A7 741 }
 {
     let n = map::lines(member);
-    zeros(&image[0x0A7..0x100])
+    zeros(image, 0x0A7, 0x100)
         && currents_ok(member, image)
-        && zeros(&image[0x100 + 18 * n..0x200])
+        && zeros(image, 0x100 + 18 * n, 0x200)
         && levels_ok(member, image)
-        && zeros(&image[0x200 + 36 * n..])
+        && zeros(image, 0x200 + 36 * n, 908)
 }
 
 // The registers of a chip: any bytes may stand at 064h to 0A6h.
@@ -96,7 +101,7 @@ pub fn registers_ok(member: usize, image: &[u8]) -> bool
 pub fn image_ok(member: usize, image: &[u8]) -> bool
     ensures { result ≡ image_ok member image.now }
 {
-    registers_ok(member, image) && zeros(&image[0x064..0x0A7])
+    registers_ok(member, image) && zeros(image, 0x064, 0x0A7)
 }
 
 // The bytes of a table into an image.

@@ -8,8 +8,8 @@ use Rattle.images.proofs.Steps.{and_then, and_else}
 use Rattle.images.proofs.Whole.{zero_faults, registers_and_faults}
 use Rattle.images.proofs.image_ok.Goals as goal
 
-pub slice_bounds-zeros-end : goal.slice_bounds-zeros-end
-slice_bounds-zeros-end c = let size = (registers_ok_lem _ _ (sym c.if-registers_ok.ensures)).size in search rules
+pub zeros-requires : goal.zeros-requires
+zeros-requires c = let size = (registers_ok_lem _ _ (sym c.if-registers_ok.ensures)).size in search rules
 
 pub returns-then-registers_ok : goal.returns-then-registers_ok
 returns-then-registers_ok c =
