@@ -2,7 +2,7 @@
 ghost use Rattle.std.specs.Prelude.{◌≡◌};
 ghost use Rattle.burst.specs.Burst.{head_first, head_second, head_address, head_writes};
 
-// The first byte of the head of a write from `address` on.
+// The first byte of the head of a write from `address` on. (A bus is a number and no enum: it is a byte of a record in C, which may hold any.)
 pub fn head_first(bus: u8, pins: u8, address: usize) -> u8
     ensures { result ≡ head_first bus pins address }
 {

@@ -19,7 +19,7 @@ fn byte_at(image: &[u8], address: usize) -> u8
     image.get(address).copied().unwrap_or(0)
 }
 
-// Beyond the end nothing is stored.
+// Beyond the end nothing is stored. (An index: what `get_mut` leaves of the slice where there is no such byte is not known to the check.)
 fn put_byte(image: &mut [u8], address: usize, value: u8)
     ensures { image.new ≡ set image.old address value }
 {

@@ -3,7 +3,7 @@
 use Rattle.std.specs.Prelude.{◌≡◌, refl, ◌⊎◌, Bool, true, false, not, ◌&&◌, ◌||◌, List, ℕ, zero, suc, ◌≤◌, ◌<◌, leb, eqb, get_or}
 use Rattle.std.proofs.Common.{sym, ◌∙◌, subst, inl, inr, true≢false, arith, leb-true, le-leb, eqb-true, eq-eqb, get_or-set_other}
 use Rattle.map.specs.declared.dots.Field.{Field}
-use Rattle.std.specs.Prelude.{Ok, Err}
+use Rattle.std.specs.Prelude.{Ok}
 use Rattle.map.specs.declared.refusals.Refusal.TheVariants.{Unsound, NotLockable}
 use Rattle.map.specs.Refusals.{accepted}
 use Rattle.map.specs.Map.{address_of}

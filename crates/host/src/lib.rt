@@ -23,7 +23,7 @@ pub use locks::{FREE, LOCKED, is_locked, lock_answer, lock_keeps, with_marks};
 use map::{Answer, Numbers};
 pub use store::{put_lost, put_setting};
 
-// What a record has beside its images.
+// What a record has beside its images. Member, bus and marks are numbers and no enums: they are bytes of a record in C, which may hold any.
 #[derive(Clone, Copy)]
 pub struct Header {
     pub member: u8,

@@ -34,7 +34,8 @@ const COMMON_RESETS: [u8; 12] = [
 
 static RESETS: [[u8; 12]; 5] = [COMMON_RESETS; 5];
 
-// The scan lines of a member; a code above 4 has none.
+// The scan lines of a member; a code above 4 has none. (A member is a number and no enum: it comes from C, from a script or from a byte of
+// a record, and every function here promises what it says of any number.)
 #[tactic(auto, unfolding(crate::specs::Map::lines_of))]
 pub fn lines(member: usize) -> usize
     ensures { (result ≡ lines_of member) × (result ≤ 11) }

@@ -83,7 +83,8 @@ static NUMBERS: [NumberKind; 8] = [
     },
 ];
 
-// The kinds of other words: a byte string
+// The kinds of other words. A kind is a letter and no enum, so that a row of LINES stays one short line.
+// A byte string
 const BYTES: u8 = b's';
 // `settings`, `image` or `chip`
 const PART: u8 = b'p';
