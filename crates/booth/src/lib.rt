@@ -44,7 +44,8 @@ pub fn start() -> Booth
 pub fn current_session(booth: Booth) -> Session
     ensures { result ≡ current_of booth }
 {
-    booth.sessions[booth.current.min(3)]
+    let Booth { sessions, current } = booth;
+    sessions[current.min(3)]
 }
 
 // Another session of the current panel.
