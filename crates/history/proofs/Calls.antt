@@ -1,43 +1,23 @@
--- What a call enters into the ledger.
+-- What a setting enters into the ledger.
 -- Assumes nothing.
-use mathlib.Core.Path.{◌≡◌, refl, sym, ap, ap₂, ◌∙◌}
+use mathlib.Core.Path.{◌≡◌, refl, ap, ap₂, ◌∙◌}
 use mathlib.Core.Bool.{Bool, true, false, cond, ◌&&◌}
 use mathlib.Core.List.{List}
 use Prim.Native.Nat.{ℕ, ◌<◌}
 use native.Mathlib.Decide.{dec_lt}
 use native.Mathlib.Omega.{arith}
 use borrow.Author.Tests.{lt-ltb, le-ltb}
-use lib.Dec.{ltb}
 use Rattle.map.specs.Refusals.{opens}
 use Rattle.map.specs.RefusalLaws.{open_i2c, open_member}
-use Rattle.map.specs.Images.{image_ok, reset_image}
+use Rattle.map.specs.Images.{image_ok}
 use Rattle.calls.specs.declared.Setting.{Setting}
-use Rattle.calls.specs.declared.Request.{Request}
 use Rattle.calls.specs.declared.Request.TheVariants.{Set}
 use Rattle.host.specs.declared.Changed.{Changed}
 use Rattle.host.specs.Record.{header_of, record_of, free, is_locked, marks_ok, sound_of, setting_of}
 use Rattle.host.specs.LockLaws.{free_unlocked}
 use Rattle.history.specs.declared.Ledger.{Ledger}
-use Rattle.history.specs.Ledger.{entry, entry_of, told_of, opened_ledger, entered_of}
+use Rattle.history.specs.Ledger.{entry, entry_of}
 use Rattle.history.proofs.LedgerLaws.{free_out, setting_enters}
-
-same : (b : Bool) (s : List ℕ) → cond b s s ≡ s
-same true s = refl
-same false s = refl
-
-pub opened_is : (m k : ℕ) (bytes : List ℕ) → k ≡ cond (ltb m 5) m 0 → bytes ≡ reset_image k → record { member = k; bytes = bytes } ≡ opened_ledger m
-unfolding opened_ledger
-opened_is m k bytes e b = rw (b, e) refl
-
--- a call that was answered 17 enters nothing
-pub kept_by : (g : Ledger) (request : Request) (lent : List ℕ) (locked : Bool) → locked ≡ true → g ≡ entered_of g (told_of request lent locked)
-unfolding entered_of
-kept_by g request lent locked e = rw e (ap (λ (l : List ℕ). record { member = g.member; bytes = l }) (sym (same (image_ok g.member g.bytes) g.bytes)))
-
--- any other its entry
-pub entered_by : (g : Ledger) (request : Request) (lent : List ℕ) (locked : Bool) → locked ≡ false → entry_of g request lent ≡ entered_of g (told_of request lent locked)
-unfolding entered_of
-entered_by g request lent locked e = rw e refl
 
 module _ (m : ℕ) (bytes : List ℕ) where
   -- a record of the ledger's bytes, on bus 0 with pins 0, is sound where its bytes are an image of the member

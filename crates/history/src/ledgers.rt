@@ -9,12 +9,14 @@ use calls::{Request, Setting};
 use host::{Header, Record};
 
 // The number of a member that can be opened, else 0. (A conversion that is filtered is no plainer.)
+#[tactic(auto, using(std::proofs::lemmas::Bool::Decides::nat_tests))]
 fn known(member: usize) -> u8
     ensures { result ≡ cond (ltb member 5) member 0 }
 {
     if member < 5 { member as u8 } else { 0 }
 }
 
+#[tactic(auto, unfolding(crate::specs::Ledger::opened_ledger))]
 pub(crate) fn opened(member: usize) -> Ledger
     ensures { result ≡ opened_ledger member }
 {
@@ -26,6 +28,7 @@ pub(crate) fn opened(member: usize) -> Ledger
 }
 
 // The ledger after a setting. (The borrow checker wants an array in a variable of its own before it is put into a literal.)
+#[tactic(auto, using(crate::proofs::Calls::set_enters))]
 fn set(ledger: Ledger, setting: Setting, lent: &[u8]) -> Ledger
     ensures { result ≡ entry_of ledger (Set setting) lent.now }
 {

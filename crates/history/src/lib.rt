@@ -61,6 +61,7 @@ pub fn call_numbers(answer: CallAnswer) -> Numbers
 }
 
 // Whether an answer is that of a register that the record's lock keeps.
+#[tactic(auto, unfolding(crate::specs::Step::answers_locked))]
 pub fn answers_locked(answer: CallAnswer) -> bool
     ensures { result ≡ answers_locked answer }
 {
@@ -68,6 +69,7 @@ pub fn answers_locked(answer: CallAnswer) -> bool
 }
 
 // One call on a world. The bytes of a Scene and the buffer of a Reset or an Update are lent.
+#[tactic(auto, using(crate::proofs::FedLists::reset_within, crate::proofs::FedLists::update_within))]
 pub fn step(world: World, request: Request, lent: &mut [u8]) -> Stepped
     ensures { leaving result lent.new ≡ step_of world request lent.old }
 {
@@ -95,6 +97,7 @@ fn changed(changed: Changed, chip: Chip) -> Stepped
 }
 
 // Clear on a world. It is no call of the claim about whole lists.
+#[tactic(auto, using(crate::proofs::FedLists::clear_within))]
 pub fn clear(world: World, buffer: &mut [u8]) -> Stepped
     ensures { leaving result buffer.new ≡ clear_step world buffer.old }
 {
@@ -109,6 +112,7 @@ pub fn opened_ledger(member: usize) -> Ledger
 }
 
 // The ledger that is told of one more call, and of its answer whether it was that of a locked register.
+#[tactic(auto, unfolding(crate::specs::Ledger::entered_of))]
 pub fn enter(ledger: Ledger, request: Request, lent: &[u8], locked: bool) -> Ledger
     ensures { result ≡ entered_of ledger (told_of request lent.now locked) }
 {
