@@ -1,4 +1,3 @@
-pub mod Copies
 pub mod InPlace
 pub mod Listed
 pub mod FourRecords

@@ -6,6 +6,9 @@ ghost use Rattle.chip.specs.Chip.{chip_of, sound_of, new_chip};
 use crate::Chip;
 use map::Answer;
 
+// Not inlined: the loops over a list behind it then have the registers for themselves, and the list of a full update takes 400
+// instructions fewer.
+#[inline(never)]
 pub(crate) fn sound(member: u8, bus: u8, pins: u8, registers: &[u8]) -> bool
     ensures { result ≡ sound_of (chip_of member bus pins registers.now) }
 {

@@ -35,7 +35,7 @@ pub struct Fed {
     pub chip: Chip,
 }
 
-// What Open answers, and a chip at its reset values.
+// What Open answers, and a chip at its reset values: not one struct with Fed, since the claims above name either call's answer by its type.
 #[derive(Clone, Copy)]
 pub struct Opened {
     pub answer: Answer,
