@@ -29,7 +29,8 @@ pub fn arg_count(rt: &impl Env) -> usize {
 
 // The system's words for an error, behind which its number stands in parentheses.
 fn without_number(text: &str) -> &str {
-    text.split_once(" (os error ").map_or(text, |(words, _)| words)
+    text.split_once(" (os error ")
+        .map_or(text, |(words, _)| words)
 }
 
 // A line: what failed, as the caller names it, a colon and the system's words for the error.
