@@ -8,30 +8,26 @@ use Prim.Native.Nat.{ℕ, ◌≤◌}
 use native.Mathlib.Omega.{arith}
 use lib.ListN.{length, take, drop, length-append}
 use lib.Seq.{take-length, take-append-le, take_at, length-take-le, length_front}
-use Rattle.map.specs.declared.refusals.Refusal.{Refusal}
 use Rattle.map.specs.declared.refusals.Refusal.TheVariants.{Unsound}
 use Rattle.map.specs.declared.refusals.Numbers as numbers
-use Rattle.map.specs.Refusals.{Answer, refusal_number, numbers_of, open_answer, opens}
+use Rattle.map.specs.Refusals.{refusal_number, numbers_of}
 use Rattle.burst.specs.Burst.{bus_bytes}
 use Rattle.faults.specs.Faults as faults
 use Rattle.faults.specs.Faults.{answer_numbers, faults_answer, faults_result}
 use Rattle.calls.specs.declared.Request.{Request}
 use Rattle.calls.specs.declared.Request.TheVariants.{Set, Reset, PowerLost, Update, Lock}
-use Rattle.host.specs.declared.Changed.{Changed}
 use Rattle.host.specs.declared.Record.{Record}
-use Rattle.host.specs.Record.{open_of, sound_of}
+use Rattle.host.specs.Record.{sound_of}
 use Rattle.update.specs.declared.Listed.{Listed}
 use Rattle.update.specs.declared.NotListed.{NotListed}
 use Rattle.update.specs.declared.NotListed.TheVariants.{Refused}
 use Rattle.update.specs.Update.{ListAnswer, listed, refused, writes_of, send_answer, update_answer}
 use Rattle.update.specs.BoundLaws.{always_room}
-use Rattle.chip.specs.declared.Opened.{Opened}
-use Rattle.chip.specs.Chip.{at_reset_of}
 use Rattle.history.specs.declared.World.{World}
 use Rattle.history.specs.declared.Stepped.{Stepped}
 use Rattle.history.specs.declared.Ledger.{Ledger}
 use Rattle.history.specs.Step.{Step, answers_locked, leaving, step_of}
-use Rattle.history.specs.Ledger.{told_of, opened_ledger, entered_of}
+use Rattle.history.specs.Ledger.{told_of, entered_of}
 use Rattle.script.specs.declared.command.Command.{Command}
 use Rattle.script.specs.declared.command.Line.TheVariants.{Run}
 use Rattle.script.specs.declared.command.Lent as lents
@@ -43,7 +39,7 @@ use Rattle.replies.specs.declared.Reply.{Reply}
 use Rattle.replies.specs.declared.Reply.TheVariants.{Bad, Numbers, Lent, Bytes, Same, Differs, Free, Locked}
 use Rattle.session.specs.declared.Session.{Session}
 use Rattle.session.specs.declared.outcomes.Outcome.{Outcome}
-use Rattle.session.specs.Run.{Effect, Does, Plain, Words, answered, numbered, opened_session, open_effect, step_effect, enters, told, call_effect, faults_effect, shown_bytes, pending_numbers, effect_of}
+use Rattle.session.specs.Run.{Effect, Does, Plain, Words, answered, step_effect, enters, told, call_effect, faults_effect, shown_bytes, pending_numbers}
 use Rattle.session.proofs.Buffers.{whole}
 
 pub plain_words : (r : Reply) → Plain r → Words r
@@ -56,16 +52,6 @@ plain_words Same p = omega arith
 plain_words (Differs a) p = omega arith
 plain_words Free p = omega arith
 plain_words Locked p = omega arith
-
--- ---- `open`
-
-pub open_accepted : (s t : Session) (m b p : ℕ) (a : Answer) → a ≡ open_answer m b p → (u : Unit {0}) → a ≡ Ok u → t ≡ opened_session m b p → open_effect s m b p ≡ numbered a t
-unfolding open_effect opens
-open_accepted s t m b p a ea u et es = rw (← ea, et, es) refl
-
-pub open_refused : (s t : Session) (m b p : ℕ) (a : Answer) (x : Refusal) → a ≡ open_answer m b p → a ≡ Err x → t ≡ s → open_effect s m b p ≡ numbered a t
-unfolding open_effect opens
-open_refused s t m b p a x ea et es = rw (← ea, et, es) refl
 
 -- ---- a part of the buffer is lent, and the rest stands behind it
 
@@ -173,6 +159,3 @@ module _ (r : Record) (answer : ListAnswer) (e : answer ≡ update_answer r 1174
 pub fitting : (l : List ℕ) (c d : Command) → Run c ≡ line_of l → c ≡ d → CommandFits l d
 unfolding Fits
 fitting l c d e is = subst (CommandFits l) is (fits l (Run c) e)
-
-pub ran : (s : Session) (l b e : List ℕ) (c d : Command) (r : Outcome) → c ≡ d → Does r e (effect_of s d l b) → Does r e (effect_of s c l b)
-ran s l b e c d r ed does = rw ed does

@@ -1,7 +1,7 @@
 -- What `check` says of the chip and the ledger: `same` where every writable register is the ledger's, 38Bh included, and otherwise the
 -- lowest one that is not. It says one of the two wherever the ledger is not void (`check_says`), so that the laws fix its answer.
 -- Assumes nothing.
-use Rattle.std.specs.Prelude.{◌≡◌, Bool, cond, not, ◌&&◌, Option, Some, None, List, eqb, get_or}
+use Rattle.std.specs.Prelude.{◌≡◌, Bool, not, ◌&&◌, Option, Some, None, List, eqb, get_or}
 use Rattle.std.proofs.Math.Path.{refl, ap, subst}
 use Rattle.std.proofs.Common.{sym, ◌∙◌, eq-eqb, eqb-true}
 use Rattle.std.proofs.Math.Bool.{true, false}

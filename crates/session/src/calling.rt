@@ -14,6 +14,7 @@ use history::Stepped;
 use script::Lent;
 
 // The bytes of a word of the line, at the front of a buffer. It answers how many.
+#[tactic(auto, using(crate::proofs::Buffers::decoded))]
 pub fn decode(line: &[u8], word: usize, buffer: &mut [u8]) -> usize
     requires { (length line.now ≤ 8192) × (4096 ≤ length buffer.old) }
     ensures { (result ≤ 4096) × (take result buffer.new ≡ bytes_of (word_at line.now word)) }
@@ -59,6 +60,7 @@ fn call_on(mut session: Session, request: Request, lent: Lent, bytes: &mut [u8])
     stepped(session, after, lent, bytes.len())
 }
 
+#[tactic(auto, using(crate::proofs::Effects::does_front))]
 pub(crate) fn call(
     session: Session,
     request: Request,

@@ -10,6 +10,7 @@ use replies::Reply;
 use script::Command;
 
 // The command is the line's. (Each arm has arguments of its own: a table of closures is no plainer.)
+#[tactic(auto, unfolding(crate::specs::Run::Plain, crate::specs::Run::effect_of))]
 pub fn run(session: Session, command: Command, line: &[u8], buffer: &mut [u8]) -> Outcome
     requires { (Run command ≡ line_of line.now) × (length buffer.old ≡ 8192) }
     ensures { Does result buffer.new (effect_of session command line.now buffer.old) }

@@ -19,7 +19,7 @@ pub(crate) fn opened(member: usize, bus: usize, pins: usize) -> Session
     }
 }
 
-#[tactic(auto, unfolding(crate::specs::Run::open_effect))]
+#[tactic(auto, unfolding(crate::specs::Run::open_effect, map::specs::Refusals::opens))]
 pub(crate) fn open(session: Session, member: usize, bus: usize, pins: usize) -> Outcome
     ensures { (buffer : List ℕ) → Does result buffer (open_effect session member bus pins) }
 {

@@ -14,6 +14,7 @@ use update::Listed;
 const LIST: usize = 1174;
 
 // n and t of the list that an update of this record would write. Only an unsound record has none.
+#[tactic(auto, using(crate::proofs::Effects::pending_listed, crate::proofs::Effects::pending_refused))]
 fn pending_numbers(host: Record) -> Numbers
     ensures { result ≡ numbers_of (pending_numbers host) }
 {
