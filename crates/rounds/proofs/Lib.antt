@@ -8,3 +8,4 @@ pub mod Accepting
 pub mod ListLaws
 pub mod AcceptLaws
 pub mod DealLaws
+pub mod Slices

@@ -7,7 +7,7 @@ mod planning;
 mod refusals;
 mod writing;
 
-ghost use Rattle.std.specs.Prelude.{◌≡◌, length, map};
+ghost use Rattle.std.specs.Prelude.{◌≡◌, cond, [], ◌∷◌, eqb, length, map};
 ghost use Rattle.host.specs.Record.{record_of, record_behind};
 ghost use Rattle.rounds.specs.Round.{present_by, present_at, record_at, round_answer, round_buffer, round_of};
 ghost use Rattle.rounds.specs.Dealing.{records_of, CopiesOf, with_images, ImagesAfter};
@@ -54,6 +54,50 @@ pub fn round_parts(
         n: dealt.writes,
         t: dealt.total(),
     })
+}
+
+// The bytes of a copy, where it is an image; else it is not written.
+fn copied(bytes: &[u8]) -> [u8; 908]
+    ensures { length bytes.now ≡ 908 → result ≡ bytes.now }
+{
+    let image: Result<&[u8; 908], _> = bytes.try_into();
+    match image {
+        Ok(image) => *image,
+        Err(_) => [0; 908],
+    }
+}
+
+fn put_back(bytes: &mut [u8], image: &[u8; 908])
+    ensures { bytes.new ≡ cond (eqb (length bytes.old) 908) image.now bytes.old }
+{
+    if bytes.len() == 908 {
+        bytes.copy_from_slice(image);
+    }
+}
+
+// The same over copies of any length: a record with an image of another length is unsound, and no place takes anything then.
+pub fn round_slices(
+    records: &[RecordRef<'_>; 4],
+    present: [bool; 4],
+    limit: usize,
+    first: &mut [u8],
+    second: &mut [u8],
+    third: &mut [u8],
+    fourth: &mut [u8],
+    buffer: &mut [u8],
+) -> ListAnswer
+    ensures value { result ≡ round_answer (present_at present) (records_of records.now) limit (length buffer.old) }
+    ensures buffer_after { buffer.new ≡ round_buffer (present_at present) (records_of records.now) limit buffer.old }
+    ensures images_after { ImagesAfter (present_at present) (records_of records.now) limit (length buffer.old)
+        (first.old ∷ second.old ∷ third.old ∷ fourth.old ∷ []) (first.new ∷ second.new ∷ third.new ∷ fourth.new ∷ []) }
+{
+    let mut images = [copied(first), copied(second), copied(third), copied(fourth)];
+    let answer = round_parts(records, present, limit, &mut images, buffer);
+    put_back(first, &images[0]);
+    put_back(second, &images[1]);
+    put_back(third, &images[2]);
+    put_back(fourth, &images[3]);
+    answer
 }
 
 fn lent(records: &[Record; 4]) -> [RecordRef<'_>; 4]
