@@ -81,7 +81,7 @@ pub(crate) fn round(
         image(bytes, 2),
         image(bytes, 3),
     ];
-    let answer = rounds::round_parts(&records(bytes), present, limit, &mut images, buffer);
+    let answer = rounds::round_images(&records(bytes), present, limit, &mut images, buffer);
     if answer.is_ok() {
         put_back(present, bytes, &images);
     }

@@ -143,15 +143,15 @@ present_by marks = marked marks 0 ∷ marked marks 1 ∷ marked marks 2 ∷ mark
 abbrev pub at_place : {A : Type 0} → A → List A → ℕ → A
 at_place none xs k = get_or xs (min k 3) none
 
--- what stands at a place; behind the four is nobody
+-- the mark and the record of a place; of an empty list nobody's
 abbrev pub present_at : List Bool → ℕ → Bool
-present_at present k = get_or present k false
+present_at = at_place false
 
 abbrev pub no_record : Record
 no_record = record_of (record { member = 0; bus = 0; pins = 0; marks = 0 }) [] []
 
 abbrev pub record_at : List Record → ℕ → Record
-record_at records k = get_or records k no_record
+record_at = at_place no_record
 
 -- the answer, and the four records that the call gives back
 unfoldable pub round_of : List Record → List Bool → ℕ → ℕ → Rounded

@@ -35,9 +35,9 @@ pub fn present_by(marks: usize) -> [bool; 4]
     ]
 }
 
-// A round on lent images. The images are copies of the four chip images, and take what is sent. Sizes come first, so that a short buffer
-// is refused before a byte is written.
-pub fn round_parts(
+// A round over copies of the four chip images, which take what is sent. Sizes come first, so that a short buffer is refused before a byte
+// is written.
+pub fn round_images(
     records: &[RecordRef<'_>; 4],
     present: [bool; 4],
     limit: usize,
@@ -75,8 +75,8 @@ fn put_back(bytes: &mut [u8], image: &[u8; 908])
     }
 }
 
-// The same over copies of any length: a record with an image of another length is unsound, and no place takes anything then.
-pub fn round_slices(
+// A round on lent images, over copies of any length: a record with an image of another length is unsound, and no place takes anything then.
+pub fn round_parts(
     records: &[RecordRef<'_>; 4],
     present: [bool; 4],
     limit: usize,
@@ -92,7 +92,7 @@ pub fn round_slices(
         (first.old ∷ second.old ∷ third.old ∷ fourth.old ∷ []) (first.new ∷ second.new ∷ third.new ∷ fourth.new ∷ []) }
 {
     let mut images = [copied(first), copied(second), copied(third), copied(fourth)];
-    let answer = round_parts(records, present, limit, &mut images, buffer);
+    let answer = round_images(records, present, limit, &mut images, buffer);
     put_back(first, &images[0]);
     put_back(second, &images[1]);
     put_back(third, &images[2]);
@@ -137,7 +137,7 @@ pub fn round(records: [Record; 4], present: [bool; 4], limit: usize, buffer: &mu
     ensures buffer_after { buffer.new ≡ round_buffer (present_at present) (record_at records) limit buffer.old }
 {
     let mut images = images(records);
-    let answer = round_parts(&lent(&records), present, limit, &mut images, buffer);
+    let answer = round_images(&lent(&records), present, limit, &mut images, buffer);
     Rounded {
         answer,
         records: with_images(records, images),

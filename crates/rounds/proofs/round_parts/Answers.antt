@@ -1,24 +1,12 @@
--- A refused round leaves the buffer and the copies; an accepted one puts its list, and the copies take what is sent.
+-- Each copy is written back where it is an image; where it is none, its record took nothing.
 -- Assumes nothing.
-use Rattle.std.proofs.Common.{ap}
-use Rattle.update.specs.Update.{is_listed}
 use Rattle.rounds.specs.Round.{present_at}
 use Rattle.rounds.specs.Dealing.{records_of}
-use Rattle.rounds.proofs.Accepting.{refused_leaves, listed_leaves}
+use Rattle.rounds.proofs.Slices.{four_after}
 use Rattle.rounds.proofs.round_parts.Goals as goal
-
-pub returns-in_err-dealt-clause-buffer_after : goal.returns-in_err-dealt-clause-buffer_after
-returns-in_err-dealt-clause-buffer_after c =
-    (refused_leaves (present_at c.args.present) (records_of c.args.records.now) c.args.limit c.args.buffer.now c.args.images.now _ c.in_err-dealt.ensures).0
-
-pub returns-in_err-dealt-clause-images_after : goal.returns-in_err-dealt-clause-images_after
-returns-in_err-dealt-clause-images_after c =
-    (refused_leaves (present_at c.args.present) (records_of c.args.records.now) c.args.limit c.args.buffer.now c.args.images.now _ c.in_err-dealt.ensures).1
-
-pub returns-clause-buffer_after : goal.returns-clause-buffer_after
-returns-clause-buffer_after c =
-    (listed_leaves (present_at c.args.present) (records_of c.args.records.now) c.args.limit _ _ _ _ (ap is_listed c.in_ok-dealt.ensures.answer) c.put_round.ensures).0
 
 pub returns-clause-images_after : goal.returns-clause-images_after
 returns-clause-images_after c =
-    (listed_leaves (present_at c.args.present) (records_of c.args.records.now) c.args.limit _ _ _ _ (ap is_listed c.in_ok-dealt.ensures.answer) c.put_round.ensures).1
+    four_after (present_at c.args.present) (records_of c.args.records.now) c.args.limit _ _ _ _ _ _ _ _ _ _ _ _ _ _ c.round_images-answer.ensures.images_after
+    c.copied.ensures c.copied-2.ensures c.copied-3.ensures c.copied-4.ensures
+    c.put_back.ensures c.put_back-2.ensures c.put_back-3.ensures c.put_back-4.ensures

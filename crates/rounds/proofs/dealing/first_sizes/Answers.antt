@@ -5,9 +5,12 @@ use Rattle.std.proofs.lemmas.List.{length-set}
 use Rattle.std.proofs.lemmas.Grind.{same_number_lists}
 use Rattle.rounds.specs.Round.{present_at}
 use Rattle.rounds.specs.Dealing.{records_of, first_bytes}
-use Rattle.rounds.proofs.AtPlaces.{sized_at}
+use Rattle.rounds.proofs.AtPlaces.{waits_at, sized_at}
 use Rattle.rounds.proofs.Shares.{first_at}
 use Rattle.rounds.proofs.dealing.first_sizes.Goals as goal
+
+pub size_at-requires-clause-lent : goal.size_at-requires-clause-lent
+size_at-requires-clause-lent c = waits_at c.args.present c.args.records.now c.told-records c.loop-place.place _ c.loop-place-test.true c.requires.sound
 
 pub loop-place-preserved : goal.loop-place-preserved
 loop-place-preserved c =
