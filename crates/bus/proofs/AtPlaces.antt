@@ -1,6 +1,6 @@
 -- What stands at a place, by its number, and a call there.
 -- Assumes nothing.
-use Rattle.std.proofs.Common.{◌≡◌, refl, sym, ap, ap₂, ◌∙◌, subst, Bool, cond, List, [], ◌∷◌, ℕ, zero, suc, ◌<◌, ◌≤◌, length, set, min, eqb, arith}
+use Rattle.std.proofs.Common.{◌≡◌, refl, sym, ap, ap₂, ◌∙◌, subst, Bool, cond, List, [], ◌∷◌, ℕ, zero, suc, ◌<◌, ◌≤◌, length, get_or, set, min, eqb, arith}
 use Rattle.calls.specs.declared.Request.{Request}
 use Rattle.history.specs.declared.World.{World}
 use Rattle.history.specs.declared.CallAnswer as answers
@@ -11,7 +11,7 @@ use Rattle.bus.specs.declared.BusRequest.{BusRequest}
 use Rattle.bus.specs.declared.BusRequest.TheVariants.{Plain, Round}
 use Rattle.bus.specs.declared.BusRounded.{BusRounded}
 use Rattle.bus.specs.declared.BusStepped.{BusStepped}
-use Rattle.bus.specs.Bus.{plain, bus_step, bus_lent, world_at, panels_of, place_of, call_of, rounded_of, stepped_of}
+use Rattle.bus.specs.Bus.{plain, bus_step, bus_lent, no_world, world_at, panels_of, place_of, call_of, rounded_of, stepped_of}
 
 -- four worlds by their places
 pub panels_back : (x : List World) → length x ≡ 4 → x ≡ panels_of (world_at x)
@@ -35,12 +35,13 @@ set_place x n p h v = ap (λ (y : List World). set y p (v p)) (panels_back x n) 
 
 -- a call at one place
 pub plain_is : (x : List World) → length x ≡ 4 → (q : Request) (old new : List ℕ) (j p : ℕ) (s : Stepped) → p ≡ place_of j →
-    leaving s new ≡ step_of (world_at x p) q old →
+    leaving s new ≡ step_of (get_or x p no_world) q old →
     (◌≡◌ {A = BusStepped} (record { answer = s.answer; panels = set x p s.world }) (stepped_of x (call_of (Plain j q) old)))
     × (new ≡ bus_lent (world_at x) (call_of (Plain j q) old))
 unfolding stepped_of
 plain_is x n q old new j p s ep es =
-    let e : leaving s new ≡ step_of (world_at x (place_of j)) q old = es ∙ ap (λ (k : ℕ). step_of (world_at x k) q old) ep in
+    let there : p ≡ min (place_of j) 3 = omega (arith, ep) in
+    let e : leaving s new ≡ step_of (world_at x (place_of j)) q old = es ∙ ap (λ (k : ℕ). step_of (get_or x k no_world) q old) there in
     let answers-are : s.answer ≡ (step_of (world_at x (place_of j)) q old).answer = ap (λ (y : Step). y.answer) e in
     let world-is : s.world ≡ (step_of (world_at x (place_of j)) q old).world = ap (λ (y : Step). y.world) e in (
       ap₂ (λ (a : answers.CallAnswer) (y : List World). record { answer = a; panels = y }) answers-are
