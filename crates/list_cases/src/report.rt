@@ -1,4 +1,6 @@
 // What the program prints, all of it on standard output.
+ghost use Rattle.std.specs.Prelude.{◌≤◌, length};
+
 use console::{say, say_decimal};
 
 // Bytes that have room for the text of any list.
@@ -31,7 +33,9 @@ pub fn one_line(rt: &impl Print, caption: &[u8], bus: usize, list: &[u8]) {
 }
 
 // The first line, without its line end.
-fn first_line(text: &[u8]) -> &[u8] {
+fn first_line(text: &[u8]) -> &[u8]
+    ensures { length result.now ≤ length text.now }
+{
     text.split(|byte| *byte == b'\n').next().unwrap_or(&[])
 }
 

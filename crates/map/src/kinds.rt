@@ -1,6 +1,7 @@
 // The address table: the register kind of each of the 908 addresses, as the LP5860 has them.
 ghost use Rattle.std.specs.Prelude.{◌≡◌};
 ghost use Rattle.map.specs.Map.{kind_of};
+ghost use Rattle.map.specs.KindTable.{kind_in};
 
 #[derive(Clone, Copy, PartialEq, Eq)]
 pub enum Kind {
@@ -937,6 +938,18 @@ static KINDS: [Kind; 908] = [
     Kind::Pwm,
     Kind::Pwm, // 38Bh
 ];
+
+// The kind that a table has at an address; Hole past its end.
+#[tactic(auto, unfolding(crate::specs::KindTable::kind_in))]
+pub fn kind_in(kinds: &[Kind], address: usize) -> Kind
+    ensures { result ≡ kind_in kinds.now address }
+{
+    if address < kinds.len() {
+        kinds[address]
+    } else {
+        Kind::Hole
+    }
+}
 
 // The kind of any address: a hole above 38Bh.
 pub fn kind_at(address: usize) -> Kind

@@ -16,7 +16,7 @@ mod registers;
 pub use dots::{
     Dot, Field, Place, dot_in, dot_number, dot_of, is_dot, number_in, place_of, width_of,
 };
-pub use kinds::{Kind, kind_at};
+pub use kinds::{Kind, kind_at, kind_in};
 pub use members::{columns, first_masks, first_resets, lines, switch_bytes};
 pub use refusals::{
     Answer, Numbers, Refusal, answer_number, answer_numbers, number_alone, open_answer,

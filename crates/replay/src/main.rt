@@ -114,6 +114,16 @@ fn play_block(
     Ok(())
 }
 
+// Whether there may be more to read, after a block's text was written and so much was read; none where one of them failed.
+fn more(written: Result<(), Failed>, got: Result<usize, Failed>) -> Result<bool, Failed>
+    ensures not_written { IsErr written → IsErr result }
+    ensures not_read { IsErr got → IsErr result }
+    ensures over { got ≡ Ok 0 → IfOk result (λ more. more ≡ false) }
+{
+    written?;
+    Ok(0 < got?)
+}
+
 // After a block, of which so much was read, the text is written. It answers whether there may be more to read.
 fn block_ended(
     out: &impl Print,
@@ -128,8 +138,7 @@ fn block_ended(
     ensures failed { IsErr got → IsErr result }
     ensures over { got ≡ Ok 0 → IfOk result (λ more. more ≡ false) }
 {
-    output::flushed(out, err, text, &mut reading.at)?;
-    Ok(0 < got?)
+    more(output::flushed(out, err, text, &mut reading.at), got)
 }
 
 fn play_some(

@@ -14,7 +14,7 @@
 // A dot is LINE.SINK, each a decimal of one or two digits. For a bit, and after pwm, `-` stands for no dot.
 #![tactic(auto)]
 
-ghost use Rattle.std.specs.Prelude.{◌≤◌};
+ghost use Rattle.std.specs.Prelude.{◌≤◌, IfSome};
 
 // The types.
 #[derive(Clone, Copy, PartialEq, Eq)]
@@ -80,7 +80,9 @@ fn count(text: &[u8]) -> usize {
 }
 
 // The value of a digit.
-fn digit(byte: u8) -> Option<usize> {
+fn digit(byte: u8) -> Option<usize>
+    ensures { IfSome result (λ d. d ≤ 15) }
+{
     match byte {
         b'0'..=b'9' => Some((byte - b'0') as usize),
         b'A'..=b'F' => Some((byte - b'A') as usize + 10),
@@ -88,14 +90,19 @@ fn digit(byte: u8) -> Option<usize> {
     }
 }
 
-// A hexadecimal number of so many digits.
-fn number(text: &[u8], least: usize, most: usize) -> Option<usize> {
+// A hexadecimal number of so many digits, three at most.
+fn number(text: &[u8], least: usize, most: usize) -> Option<usize>
+    ensures { IfSome result (λ n. n ≤ 4095) }
+{
     if text.len() < least || most < text.len() {
         return None;
     }
     let mut value: usize = 0;
     for byte in text {
-        value = value.checked_mul(16)?.checked_add(digit(*byte)?)?;
+        if 0xFF < value {
+            return None;
+        }
+        value = 16 * value + digit(*byte)?;
     }
     Some(value)
 }

@@ -12,7 +12,7 @@ use Rattle.std.proofs.lemmas.List.Recursion.{is_position_or_len}
 use Rattle.std.proofs.lemmas.List.Sums.{prefix_len-le-length}
 use Rattle.std.proofs.lemmas.Option.{unwrap_or-slice_get}
 use denote.Ref.{Bor}
-use Rattle.script.specs.Numbers.{digit_of, is_digit, all_digits, value_from, is_numeral, numeral_of}
+use Rattle.script.specs.Numbers.{digit_of, digit_value, is_digit, all_digits, value_from, is_numeral, numeral_of}
 use Rattle.script.specs.Bytes.{pair_of, bytes_of}
 use Rattle.text.specs.Text.{Puts}
 use Rattle.text.specs.TextLaws.{after_inside, puts_length, Putting, putting_none, putting_more, putting_all}
@@ -125,26 +125,22 @@ value_least : (base : ℕ) → 1 ≤ base → (w : List ℕ) (v : ℕ) → v ≤
 unfolding value_from
 value_least base h [] v = omega arith
 value_least base h (b ∷ w) v =
-    let rest = value_least base h w (base * v + unwrap_or (digit_of b) 0) in
+    let rest = value_least base h w (base * v + digit_value b) in
     let once : 1 * v ≤ base * v = mul-le-mul_right v h in
     omega (arith, rest, once)
 
 module _ (base most v b : ℕ) (w : List ℕ) where
-  pub rest_none : digit_of b ≡ None → rest_of base most v (b ∷ w) ≡ None
+  pub rest_wrong : base ≤ digit_value b → rest_of base most v (b ∷ w) ≡ None
   unfolding rest_of
-  rest_none e = rw (rest_of, all_digits, is_digit, e) refl
-
-  pub rest_wrong : (d : ℕ) → digit_of b ≡ Some d → base ≤ d → rest_of base most v (b ∷ w) ≡ None
-  unfolding rest_of
-  rest_wrong d e h =
-      let no : is_digit base b ≡ false = rw (is_digit, e) (le-ltb d base h) in
+  rest_wrong h =
+      let no : is_digit base b ≡ false = le-ltb (digit_value b) base h in
       rw (all_digits, no) refl
 
-  pub rest_more : (d : ℕ) → digit_of b ≡ Some d → d < base → rest_of base most v (b ∷ w) ≡ rest_of base most (base * v + d) w
+  pub rest_more : digit_value b < base → rest_of base most v (b ∷ w) ≡ rest_of base most (base * v + digit_value b) w
   unfolding rest_of value_from
-  rest_more d e h =
-      let yes : is_digit base b ≡ true = rw (is_digit, e) (lt-ltb d base h) in
-      rw (all_digits, yes, e) refl
+  rest_more h =
+      let yes : is_digit base b ≡ true = lt-ltb (digit_value b) base h in
+      rw (all_digits, yes) refl
 
 pub rest_large : (base most v : ℕ) (w : List ℕ) → 1 ≤ base → most < v → rest_of base most v w ≡ None
 unfolding rest_of
@@ -165,16 +161,15 @@ module _ (base digits most : ℕ) (w : List ℕ) (i v : ℕ) (h : i < length w) 
   turn : rest_of base most v (get_or w i 0 ∷ drop (i + 1) w) ≡ numeral_of base digits most w
   turn = ap (rest_of base most v) (sym (next_left w i h)) ∙ here
 
-  pub read_none : digit_of (get_or w i 0) ≡ None → None ≡ numeral_of base digits most w
-  read_none e = sym (rest_none base most v (get_or w i 0) (drop (i + 1) w) e) ∙ turn
+  pub read_wrong : (d : ℕ) → d ≡ digit_value (get_or w i 0) → base ≤ d → None ≡ numeral_of base digits most w
+  read_wrong d e l = sym (rest_wrong base most v (get_or w i 0) (drop (i + 1) w) (omega (arith, e))) ∙ turn
 
-  pub read_wrong : (d : ℕ) → digit_of (get_or w i 0) ≡ Some d → base ≤ d → None ≡ numeral_of base digits most w
-  read_wrong d e l = sym (rest_wrong base most v (get_or w i 0) (drop (i + 1) w) d e l) ∙ turn
+  pub read_more : (d : ℕ) → d ≡ digit_value (get_or w i 0) → d < base → rest_of base most (base * v + d) (drop (i + 1) w) ≡ numeral_of base digits most w
+  read_more d e l =
+      ap (λ (x : ℕ). rest_of base most (base * v + x) (drop (i + 1) w)) e
+      ∙ sym (rest_more base most v (get_or w i 0) (drop (i + 1) w) (omega (arith, e))) ∙ turn
 
-  pub read_more : (d : ℕ) → digit_of (get_or w i 0) ≡ Some d → d < base → rest_of base most (base * v + d) (drop (i + 1) w) ≡ numeral_of base digits most w
-  read_more d e l = sym (rest_more base most v (get_or w i 0) (drop (i + 1) w) d e l) ∙ turn
-
-  pub read_large : (d : ℕ) → digit_of (get_or w i 0) ≡ Some d → d < base → most < base * v + d → None ≡ numeral_of base digits most w
+  pub read_large : (d : ℕ) → d ≡ digit_value (get_or w i 0) → d < base → most < base * v + d → None ≡ numeral_of base digits most w
   read_large d e l m = sym (rest_large base most (base * v + d) (drop (i + 1) w) (omega arith) m) ∙ read_more d e l
 
 pub read_all : (base digits most : ℕ) (w : List ℕ) (i v : ℕ) → length w ≤ i → v ≤ most → rest_of base most v (drop i w) ≡ numeral_of base digits most w →

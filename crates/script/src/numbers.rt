@@ -16,6 +16,9 @@ pub(crate) fn digit(byte: u8) -> Option<usize>
     }
 }
 
+// What stands for a code that is no digit: above every digit.
+const NO_DIGIT: usize = 16;
+
 pub(crate) fn read(word: &[u8], base: usize, digits: usize, most: usize) -> Option<usize>
     ensures { result ≡ numeral_of base digits most word.now }
 {
@@ -24,7 +27,7 @@ pub(crate) fn read(word: &[u8], base: usize, digits: usize, most: usize) -> Opti
     }
     let mut value: usize = 0;
     for byte in word {
-        let next = digit(*byte)?;
+        let next = digit(*byte).unwrap_or(NO_DIGIT);
         if base <= next {
             return None;
         }

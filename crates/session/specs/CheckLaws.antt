@@ -1,7 +1,7 @@
 -- What `check` says of the chip and the ledger: `same` where every writable register is the ledger's, 38Bh included, and otherwise the
 -- lowest one that is not. It says one of the two wherever the ledger is not void (`check_says`), so that the laws fix its answer.
 -- Assumes nothing.
-use Rattle.std.specs.Prelude.{◌≡◌, Bool, not, ◌&&◌, Option, Some, None, List, eqb, get_or}
+use Rattle.std.specs.Prelude.{◌≡◌, Bool, not, ◌&&◌, Option, Some, None, MatchOption, List, eqb, get_or}
 use Rattle.std.proofs.Math.Path.{refl, ap, subst}
 use Rattle.std.proofs.Common.{sym, ◌∙◌, eq-eqb, eqb-true}
 use Rattle.std.proofs.Math.Bool.{true, false}
@@ -151,16 +151,39 @@ module _ (s : Session) (g : Ledger) (is : s.ledger ≡ Some g) where
   compared_is = ap (compare x) is
 
   -- "compares every writable register of the chip model with the ledger"
-  pub check_same : compared s ≡ Same → (a : ℕ) → a < 908 → writable_of m a ≡ true → get_or x a 0 ≡ get_or y a 0
-  check_same e a h = same_from m x y 908 0 (sym compared_is ∙ e) a (omega arith) (omega arith)
+  same_is : compared s ≡ Same → (a : ℕ) → a < 908 → writable_of m a ≡ true → get_or x a 0 ≡ get_or y a 0
+  same_is e a h = same_from m x y 908 0 (sym compared_is ∙ e) a (omega arith) (omega arith)
 
   -- "or `differs A` with the lowest differing address"
-  pub check_differs : (k : ℕ) → compared s ≡ Differs k → Lowest m x y 0 908 k
-  check_differs k e = differs_from m x y 908 0 k (sym compared_is ∙ e)
+  differs_is : (k : ℕ) → compared s ≡ Differs k → Lowest m x y 0 908 k
+  differs_is k e = differs_from m x y 908 0 k (sym compared_is ∙ e)
 
   -- "`same`, or `differs A`": one of the two, unless the ledger is void
   pub check_says : Says m x y (compared s)
   check_says = rw compared_is (says_from m x y 908 0)
+
+-- what `check` says of a ledger that there is; without one it says neither
+module _ (s : Session) where
+  -- there is a ledger, and this holds of it
+  abbrev Kept : (Ledger → Type 0) → Option Ledger → Type 0
+  Kept P l = MatchOption l ⊥ P
+
+  kept : (P : Ledger → Type 0) (r : Reply) → (r ≡ Bad → ⊥) → compared s ≡ r → ((g : Ledger) → s.ledger ≡ Some g → P g) → Kept P s.ledger
+  unfolding compared
+  kept P r n e p = go s.ledger refl
+    where
+      go : (l : Option Ledger) → s.ledger ≡ l → Kept P l
+      go (Some g) q = p g q
+      go None q = n (sym e ∙ ap (compare s.world.chip.registers) q)
+
+  -- "compares every writable register of the chip model with the ledger"
+  pub check_same : compared s ≡ Same →
+      Kept (λ g. (a : ℕ) → a < 908 → writable_of g.member a ≡ true → get_or s.world.chip.registers a 0 ≡ get_or g.bytes a 0) s.ledger
+  check_same e = kept _ Same (λ q. let z : 0 ≡ 1 = ap named q in absurd (omega arith)) e (λ g is. same_is s g is e)
+
+  -- "or `differs A` with the lowest differing address"
+  pub check_differs : (k : ℕ) → compared s ≡ Differs k → Kept (λ g. Lowest g.member s.world.chip.registers g.bytes 0 908 k) s.ledger
+  check_differs k e = kept _ (Differs k) (λ q. let z : 2 + k ≡ 1 = ap named q in absurd (omega arith)) e (λ g is. differs_is s g is k e)
 
 -- "`check` then prints `?` until the next accepted `open`"
 pub check_void : (s : Session) → s.ledger ≡ None → compared s ≡ Bad

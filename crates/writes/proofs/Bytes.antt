@@ -9,7 +9,7 @@ use native.Mathlib.Numerals.{add-one}
 use native.Mathlib.Omega.{arith}
 use lib.Bits.{bit_or, bit_xor, or_add_and, xor_add_and, and_le_l, and_le_r}
 use lib.ListN.{length, get_or, take, drop, set, length-take, length-drop, length-set}
-use lib.Seq.{sets, sets-eq, length-sets, length-take-le, drop-drop, take_all, take-take}
+use lib.Seq.{sets, sets-eq, length-sets, take-suc, get_or-drop, length-take-le, drop-drop, take_all, take-take}
 use borrow.Rule.Slice.PartMut.{put_mid}
 use Rattle.burst.specs.Burst.{size_bytes, put_size, head_first, head_second, transaction_of}
 use Rattle.plan.specs.Update.{data_of}
@@ -78,6 +78,39 @@ take_most k n xs = go (dec_le k n)
         let z : min k n ≡ k = omega arith in
         ap (λ (j : ℕ). take j xs) z ∙ sym (take_all n (take k xs) (omega (arith, length-take k xs)))
     go (no h) = let z : min k n ≡ n = omega arith in ap (λ (j : ℕ). take j xs) z ∙ sym (take-take n k xs (omega arith))
+
+-- i bytes stored one by one
+module _ (old from : List ℕ) (to start : ℕ) where
+  pub record Copied (i : ℕ) (new : List ℕ) : Type 0 where
+    pub size : length new ≡ length old
+    pub is : new ≡ sets old to (take i (drop start from))
+
+  pub copied_none : Copied 0 old
+  copied_none = record { size = refl; is = refl }
+
+  pub copied_more : (i : ℕ) (new : List ℕ) → start + i < length from → Copied i new → Copied (i + 1) (set new (to + i) (get_or from (start + i) 0))
+  copied_more i new h c = record {
+    size = length-set new (to + i) (get_or from (start + i) 0) ∙ c.size;
+    is =
+        ap (λ (l : List ℕ). set l (to + i) (get_or from (start + i) 0)) c.is
+        ∙ ap (λ (k : ℕ). set (sets old to (take i xs)) (to + k) (get_or from (start + i) 0)) (sym short)
+        ∙ sets_append (take i xs) (get_or from (start + i) 0 ∷ []) old to
+        ∙ ap (λ (v : ℕ). sets old to (take i xs ++ (v ∷ []))) (sym (get_or-drop start from i 0))
+        ∙ ap (λ (l : List ℕ). sets old to l) (sym (take-suc xs i 0 inside) ∙ ap (λ (k : ℕ). take k xs) (sym (add-one i)));
+  }
+    where
+      xs : List ℕ
+      xs = drop start from
+
+      inside : i < length (drop start from)
+      inside = omega (arith, length-drop start from)
+
+      short : length (take i (drop start from)) ≡ i
+      short = length-take-le i (drop start from) (omega (arith, inside))
+
+  -- all of them
+  pub copied_all : (len i : ℕ) (new : List ℕ) → i ≡ len → Copied i new → new ≡ sets old to (take len (drop start from))
+  copied_all len i new e c = c.is ∙ ap (λ (k : ℕ). sets old to (take k (drop start from))) e
 
 -- k bytes, copied over k places
 pub part_copied : (old from : List ℕ) (at start k i j : ℕ) (new : List ℕ) → new ≡ take j (drop start from) → i ≡ k → j ≡ k →

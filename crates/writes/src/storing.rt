@@ -6,6 +6,8 @@ ghost use Rattle.burst.specs.FrontLaws.{LeadsWithList};
 ghost use Rattle.plan.specs.Update.{store_all};
 ghost use Rattle.writes.specs.Stored.{Within, AllWithin};
 
+use crate::writer::store;
+
 // The data bytes of the transaction of `size` bytes at `from`. It answers how many it stored: none where the list or the image ends before.
 // (A list has fewer than 2 ^ 16 transactions, each of fewer than 2 ^ 16 bytes.)
 fn store_transaction(image: &mut [u8], bus: u8, list: &[u8], from: usize, size: usize) -> usize
@@ -25,8 +27,7 @@ fn store_transaction(image: &mut [u8], bus: u8, list: &[u8], from: usize, size: 
     if image.len() < address + len {
         return 0;
     }
-    image[address..address + len].copy_from_slice(&list[from + 2..from + size]);
-    len
+    store(image, address, list, from + 2, len)
 }
 
 // The data bytes of every transaction of the list at the front of these bytes. It answers how many it stored.

@@ -13,7 +13,21 @@ fn room(size: usize, at: usize, len: usize) -> usize
     len.min(size.saturating_sub(at))
 }
 
-// `len` bytes of `from`, from `start` on, go to the places of `to` from `at` on; what lies behind either end is left out.
+// `len` bytes of `from`, from `start` on, go to the places of `to` from `at` on. It answers how many, counted as they are stored.
+pub(crate) fn store(to: &mut [u8], at: usize, from: &[u8], start: usize, len: usize) -> usize
+    requires { 0 < len → (at + len ≤ length to.old) × (start + len ≤ length from.now) }
+    ensures value { result ≡ len }
+    ensures to_after { to.new ≡ sets to.old at (take len (drop start from.now)) }
+{
+    let mut stored = 0;
+    for i in 0..len {
+        to[at + i] = from[start + i];
+        stored += 1;
+    }
+    stored
+}
+
+// The same of bytes and places that may not all be there: what lies behind either end is left out.
 pub fn copy(to: &mut [u8], at: usize, from: &[u8], start: usize, len: usize)
     ensures { to.new ≡ sets to.old at (take len (drop start from.now)) }
 {

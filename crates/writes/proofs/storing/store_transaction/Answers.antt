@@ -1,9 +1,6 @@
 -- `writes::storing::store_transaction` meets its contract.
 -- Assumes nothing.
-use mathlib.Core.Path.{refl}
-use Prim.Native.Nat.{◌+◌, ◌-◌}
 use native.Mathlib.Omega.{arith}
-use Rattle.writes.proofs.Bytes.{part_copied}
 use Rattle.writes.proofs.ListStored.{address_small, one_within, one_counted, one_stored}
 use Rattle.writes.proofs.storing.store_transaction.Goals as goal
 
@@ -16,10 +13,9 @@ returns-then-image-address c = record { within = omega arith; value = λ three i
 pub returns : goal.returns
 returns c =
     record {
-      within = omega arith;
+      within = omega (arith, c.store.ensures.value);
       value = λ three inside within. (
-        one_counted c.args.bus c.args.from c.args.size c.args.list.now c.args.image.now three inside _ c.head_address-address.ensures _ refl,
-        one_stored c.args.bus c.args.from c.args.size c.args.list.now c.args.image.now three inside _ c.head_address-address.ensures _
-            (part_copied c.args.image.now c.args.list.now c.head_address-address.result (c.args.from + 2) (c.args.size - 2) _ _ _ c.copy_from_slice.ensures.after (omega arith) (omega arith) (omega arith) (omega arith)),
+        one_counted c.args.bus c.args.from c.args.size c.args.list.now c.args.image.now three inside _ c.head_address-address.ensures _ c.store.ensures.value,
+        one_stored c.args.bus c.args.from c.args.size c.args.list.now c.args.image.now three inside _ c.head_address-address.ensures _ c.store.ensures.to_after,
       );
     }
