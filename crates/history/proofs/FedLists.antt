@@ -24,7 +24,7 @@ send_within r x s size = go (send_answer r x size) refl
     go (Err e) f = tt
 
 -- and keeps the buffer's length
-within : (x : Record → Sending) (r : Record) → is_listed (x r).short ≡ false → (u : Sent) (old new : ℕ) → u ≡ send_of r (x r) old → new ≡ old →
+pub within : (x : Record → Sending) (r : Record) → is_listed (x r).short ≡ false → (u : Sent) (old new : ℕ) → u ≡ send_of r (x r) old → new ≡ old →
     Within u.answer new
 within x r s u old new e k = rw (e, k) (send_within r (x r) s old)
 
