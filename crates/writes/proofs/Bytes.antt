@@ -1,7 +1,7 @@
 -- The loops over bytes: a block compared, the first difference, a copy.
 -- Assumes nothing.
-use mathlib.Core.Path.{◌≡◌, refl, sym, ap, ap₂, subst, ◌∙◌}
-use mathlib.Core.List.{List, [], ◌∷◌, ◌++◌, append_assoc}
+use mathlib.Core.Path.{◌≡◌, refl, sym, ap, subst, ◌∙◌}
+use mathlib.Core.List.{List, [], ◌∷◌, ◌++◌}
 use Prim.Native.Nat.{ℕ, suc, ◌+◌, ◌-◌, ◌*◌, ◌/◌, ◌≤◌, ◌<◌, min}
 use native.Mathlib.Nat.{add-zero}
 use native.Mathlib.Decide.{dec_lt, dec_le, ℕ_discrete}
@@ -9,8 +9,7 @@ use native.Mathlib.Numerals.{add-one}
 use native.Mathlib.Omega.{arith}
 use lib.Bits.{bit_or, bit_xor, or_add_and, xor_add_and, and_le_l, and_le_r}
 use lib.ListN.{length, get_or, take, drop, set, length-take, length-drop, length-set}
-use lib.Seq.{sets, sets-eq, length-sets, take-suc, get_or-drop, length-take-le, drop-drop, take_all, take-take}
-use borrow.Rule.Slice.PartMut.{put_mid}
+use lib.Seq.{sets, length-sets, take-suc, get_or-drop, length-take-le, take_all, take-take}
 use Rattle.burst.specs.Burst.{size_bytes, put_size, head_first, head_second, transaction_of}
 use Rattle.plan.specs.Update.{data_of}
 use Rattle.writes.specs.Found.{SameTo}
@@ -111,18 +110,6 @@ module _ (old from : List ℕ) (to start : ℕ) where
   -- all of them
   pub copied_all : (len i : ℕ) (new : List ℕ) → i ≡ len → Copied i new → new ≡ sets old to (take len (drop start from))
   copied_all len i new e c = c.is ∙ ap (λ (k : ℕ). sets old to (take k (drop start from))) e
-
--- k bytes, copied over k places
-pub part_copied : (old from : List ℕ) (at start k i j : ℕ) (new : List ℕ) → new ≡ take j (drop start from) → i ≡ k → j ≡ k →
-    at + k ≤ length old → start + k ≤ length from → put_mid at i old new ≡ sets old at (take k (drop start from))
-part_copied old from at start k i j new e ei ej h l =
-    let xs : List ℕ = take k (drop start from) in
-    let size : length xs ≡ k = length-take-le k (drop start from) (omega (arith, length-drop start from)) in
-    let rest : drop i (drop at old) ≡ drop (at + length xs) old = drop-drop i at old ∙ ap (λ (n : ℕ). drop n old) (omega (arith, size)) in
-    let put : sets old at xs ≡ take at old ++ (xs ++ drop (at + length xs) old) =
-    sets-eq xs old at (omega (arith, size)) ∙ append_assoc (take at old) xs (drop (at + length xs) old) in
-    let same : new ≡ xs = e ∙ ap (λ (n : ℕ). take n (drop start from)) ej in
-    ap₂ (λ (x y : List ℕ). take at old ++ (x ++ y)) same rest ∙ sym put
 
 -- as many of the bytes as there are, at as many of the places
 pub copied_most : (old from : List ℕ) (to start len most count : ℕ) (new : List ℕ) → most ≡ min len (length from - start) → count ≡ min most (length old - to) →

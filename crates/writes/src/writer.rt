@@ -13,7 +13,8 @@ fn room(size: usize, at: usize, len: usize) -> usize
     len.min(size.saturating_sub(at))
 }
 
-// `len` bytes of `from`, from `start` on, go to the places of `to` from `at` on. It answers how many, counted as they are stored.
+// `len` bytes of `from`, from `start` on, go to the places of `to` from `at` on. It answers how many, counted as they are stored. A loop, since
+// copying by slices, which might overlap, takes a function of the C library that a program need not have.
 pub(crate) fn store(to: &mut [u8], at: usize, from: &[u8], start: usize, len: usize) -> usize
     requires { 0 < len → (at + len ≤ length to.old) × (start + len ≤ length from.now) }
     ensures value { result ≡ len }
@@ -32,9 +33,7 @@ pub fn copy(to: &mut [u8], at: usize, from: &[u8], start: usize, len: usize)
     ensures { to.new ≡ sets to.old at (take len (drop start from.now)) }
 {
     let count = room(to.len(), at, room(from.len(), start, len));
-    if 0 < count {
-        to[at..at + count].copy_from_slice(&from[start..start + count]);
-    }
+    store(to, at, from, start, count);
 }
 
 // One transaction at a place: the head, and the settings' bytes from `start` on. What lies behind the buffer's end is left out.

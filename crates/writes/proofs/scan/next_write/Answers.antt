@@ -3,8 +3,6 @@
 use native.Mathlib.Omega.{arith}
 use Rattle.std.proofs.Common.{rules}
 use mathlib.Core.Path.{◌≡◌}
-use Rattle.host.specs.Record.{record_of}
-use Rattle.writes.specs.Marks.{Whole}
 use Rattle.writes.proofs.Marks.{next_none, next_found}
 use Rattle.writes.proofs.scan.next_write.Goals as goal
 
