@@ -944,11 +944,10 @@ static KINDS: [Kind; 908] = [
 pub fn kind_in(kinds: &[Kind], address: usize) -> Kind
     ensures { result ≡ kind_in kinds.now address }
 {
-    if address < kinds.len() {
-        kinds[address]
-    } else {
-        Kind::Hole
+    if kinds.len() <= address {
+        return Kind::Hole;
     }
+    kinds[address]
 }
 
 // The kind of any address: a hole above 38Bh.
