@@ -12,7 +12,7 @@ function hold(what) {
 }
 
 # ---- The sources: `owner` says of each line which item it belongs to, `fn crate::module::name`, `const NAME` or `type`; a method of an `impl`
-# of the type T is `fn crate::module::T::name`.
+# of the type T is `fn crate::module::T::name`, and of `impl From<U> for T` it is `fn crate::module::TFromU::name`.
 
 # src/lib.rt has crate::name, src/a/b.rt has crate::a::b::name
 function path_of(file, name) {
@@ -21,6 +21,16 @@ function path_of(file, name) {
     sub(/^(lib|main)$/, "", file)
     gsub(/\//, "::", file)
     return crate (file == "" ? "" : "::" file) "::" name
+}
+
+# how the check calls an `impl`, by its head
+function block_of(head, type,    half) {
+    if (head !~ / for /) return type
+    sub(/^impl /, "", head)
+    split(head, half, " for ")
+    gsub(/[^A-Za-z0-9_]/, "", half[1])
+    gsub(/[^A-Za-z0-9_]/, "", half[2])
+    return half[2] half[1]
 }
 
 kind == "source" && FNR == 1 {
@@ -49,7 +59,7 @@ kind == "source" {
         if (word[1] == "const" || word[1] == "static") item = "const " word[2]
         if (item ~ /^const / && declared[item]++) hold("two constants are called " word[2] ", and the judge cannot tell them apart")
         in_body = 0
-        of_impl = word[1] == "impl" && $0 !~ / for / ? word[2] : ""
+        of_impl = word[1] == "impl" ? block_of(start, word[2]) : ""
     }
     if (of_impl != "" && $0 ~ /^    (pub(\([a-z]+\))? )?fn /) {
         start = $0
