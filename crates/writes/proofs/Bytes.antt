@@ -12,7 +12,7 @@ use lib.ListN.{length, get_or, take, drop, set, length-take, length-drop, length
 use lib.Seq.{sets, length-sets, take-suc, get_or-drop, length-take-le, take_all, take-take}
 use Rattle.burst.specs.Burst.{size_bytes, put_size, head_first, head_second, transaction_of}
 use Rattle.plan.specs.Update.{data_of}
-use Rattle.writes.specs.Found.{SameTo}
+use Rattle.writes.specs.Found.{SameTo, DifferTo}
 use Rattle.writes.specs.WrittenLaws.{sets_append, sets_past}
 
 -- ---- same bytes
@@ -53,6 +53,23 @@ module _ (settings image : List ℕ) (from : ℕ) where
           let o = or_add_and bits (bit_xor x y) in
           let z : bit_xor x y ≡ 0 = omega (arith, o, and_le_l bits (bit_xor x y)) in
           (omega (arith, o, and_le_r bits (bit_xor x y)), omega (arith, z, xor_add_and x y, and_le_l x y, and_le_r x y))
+
+  -- differing bytes so far
+
+  pub record Differing (a : ℕ) : Type 0 where
+    pub least : from ≤ a
+    pub most : a ≤ 908
+    pub differ : (k : ℕ) → from ≤ k → k < a → get_or settings k 0 ≡ get_or image k 0 → ⊥
+
+  pub differing_more : (a : ℕ) → a < 908 → Differing a → (get_or settings a 0 ≡ get_or image a 0 → ⊥) → Differing (a + 1)
+  differing_more a h d n = record { least = omega (arith, d.least); most = omega arith; differ = λ k l u. at k l u (ℕ_discrete k a) }
+    where
+      at : (k : ℕ) → from ≤ k → k < a + 1 → Dec (k ≡ a) → get_or settings k 0 ≡ get_or image k 0 → ⊥
+      at k l u (yes q) e = n (subst (λ (x : ℕ). get_or settings x 0 ≡ get_or image x 0) q e)
+      at k l u (no q) e = d.differ k l (omega arith) e
+
+  pub differing_done : (a : ℕ) → Differing a → (a < 908 → get_or settings a 0 ≡ get_or image a 0) → DifferTo settings image from a
+  differing_done a d s = record { least = d.least; most = d.most; differ = d.differ; same = s }
 
 -- ---- copies
 

@@ -2,25 +2,32 @@
 -- Assumes nothing.
 use mathlib.Core.Path.{◌≡◌, refl, sym, ap₂, subst, ◌∙◌}
 use mathlib.Core.Logic.{inl, inr}
-use mathlib.Core.Bool.{Bool, true, false, not, false≢true, true≢false}
+use mathlib.Core.Bool.{Bool, true, false, not, and-true, false≢true, true≢false}
 use mathlib.Core.List.{List}
 use Prim.Native.Nat.{ℕ, zero, suc, ◌+◌, ◌-◌, ◌≤◌, ◌<◌}
 use native.Mathlib.Decide.{dec_lt, ℕ_discrete}
 use native.Mathlib.Omega.{arith}
 use borrow.Author.Tests.{le-leb, lt-leb, eq-eqb, ne_eqb, eqb-true}
-use lib.Dec.{eqb}
+use lib.Dec.{eqb, ltb}
 use lib.ListN.{get_or}
-use Rattle.map.specs.Map.{writable_of}
+use Rattle.map.specs.declared.kinds.Kind.{Kind}
+use Rattle.map.specs.Map.{lines_of, columns_of, kind_of, reserved_as, reserved_of, writable_of}
 use Rattle.map.specs.ByteLaws.{writable_below}
 use Rattle.plan.specs.Plan.{Mark, hole, clean, dirty}
 use Rattle.plan.specs.Update.{mark_at}
 use Rattle.plan.proofs.UpdateLaws.{marks_at_lem}
 use Rattle.plan.specs.NextLaws.{Quiet, Closed, Extends, extends_more, extends_over, extends_all}
 use Rattle.host.specs.declared.Header.{Header}
-use Rattle.host.specs.Record.{record_of, may_write}
+use Rattle.host.specs.Record.{record_of, lock_keeps, may_write}
 use Rattle.host.specs.RecordLaws.{not_writable}
 use Rattle.writes.specs.Marks.{chip_view, marks_of, Whole}
 use Rattle.writes.specs.Found.{differs_at, NoneDiffers, Near, Agree, FirstDiffering, DifferTo, WriteEnd, NextWrite}
+
+-- what `member_may_write` finds, from the member's lines and columns at hand
+pub taken : (h : Header) (n cs a : ℕ) (k : Kind) (x : ℕ) → n ≡ lines_of h.member → cs ≡ columns_of h.member → k ≡ kind_of a →
+    x ≡ reserved_as k h.member n cs a → lock_keeps h a ≡ false → ltb x 255 ≡ may_write h a
+unfolding may_write writable_of reserved_of
+taken h n cs a k x en ec ek ex free = rw (ex, ek, en, ec, free) (sym (and-true (ltb (reserved_as (kind_of a) h.member (lines_of h.member) (columns_of h.member) a) 255)))
 
 -- ---- what `differs` says
 

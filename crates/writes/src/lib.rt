@@ -8,6 +8,7 @@
 // promised where the two images differ only at addresses that may be written, as in a sound record.
 #![tactic(auto)]
 
+mod members;
 mod scan;
 mod storing;
 mod writer;

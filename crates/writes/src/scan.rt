@@ -8,15 +8,27 @@ ghost use Rattle.host.specs.Record.{record_of, record_behind, may_write};
 ghost use Rattle.writes.specs.Marks.{marks_of, Whole};
 ghost use Rattle.writes.specs.Found.{differs_at, Agree, SameTo, FirstDiffering, DifferTo, NoneDiffers, Near, GoesTo, WriteEnd, Placed, NextWrite, Small, Counted};
 
+use crate::members::{Member, member_of};
 use host::{Header, RecordRef};
 
-// Whether an address may be written: it is writable for the member, and no locked one. Not inlined: in the loop of `hole` it would be worked
-// out for every kind of register at once, at three times the instructions.
-#[inline(never)]
+// Whether an address may be written: it is writable for the member, and no locked one.
 pub fn may_write(header: Header, address: usize) -> bool
     ensures { result ≡ may_write header address }
 {
-    map::writable(header.member as usize, address) && !host::lock_keeps(header, address)
+    member_may_write(member_of(header), address)
+}
+
+// The same, with the member's lines and columns at hand.
+fn member_may_write(member: Member, address: usize) -> bool
+    ensures { result ≡ may_write member.header address }
+{
+    if host::lock_keeps(member.header, address) {
+        return false;
+    }
+    let code = member.header.member as usize;
+    let kind = map::kind_at(address);
+    let mask = map::reserved_as(kind, code, member.lines, member.columns, address);
+    mask < 255
 }
 
 // So many bytes are compared at once where nothing differs, and so many in the block that has the difference.
@@ -55,7 +67,12 @@ fn first_differing(settings: &[u8; 908], image: &[u8; 908], from: usize) -> Opti
 {
     let block = past_same(settings, image, from, BLOCK);
     let part = past_same(settings, image, block, PART);
-    (part..908).find(|a| settings[*a] != image[*a])
+    for a in part..908 {
+        if settings[a] != image[a] {
+            return Some(a);
+        }
+    }
+    None
 }
 
 fn differs(settings: &[u8; 908], image: &[u8; 908], a: usize) -> bool
@@ -69,9 +86,12 @@ fn past_differing(settings: &[u8; 908], image: &[u8; 908], from: usize) -> usize
     requires { from ≤ 908 }
     ensures { DifferTo settings.now image.now from result }
 {
-    (from..908)
-        .find(|a| settings[*a] == image[*a])
-        .unwrap_or(908)
+    for a in from..908 {
+        if settings[a] == image[a] {
+            return a;
+        }
+    }
+    908
 }
 
 // The next differing address behind `end`, if at most two addresses from `end` on lie before it.
@@ -82,37 +102,45 @@ fn near(settings: &[u8; 908], image: &[u8; 908], end: usize) -> Option<usize>
     (end + 1..end + 3).find(|a| differs(settings, image, *a))
 }
 
-// The first hole from `from` up to `to`: an address that may not be written.
-fn hole(header: Header, from: usize, to: usize) -> Option<usize>
-    ensures { MatchOption result ((a : ℕ) → from ≤ a → a < to → may_write header a ≡ true)
-        (λ a. (from ≤ a) × (a < to) × (may_write header a ≡ false) × ((k : ℕ) → from ≤ k → k < a → may_write header k ≡ true)) }
+// The first hole from `from` up to `to`, an address that may not be written: one or two addresses.
+fn hole(member: Member, from: usize, to: usize) -> Option<usize>
+    requires { (from < to) × (to ≤ from + 2) }
+    ensures { MatchOption result ((a : ℕ) → from ≤ a → a < to → may_write member.header a ≡ true)
+        (λ a. (from ≤ a) × (a < to) × (may_write member.header a ≡ false)
+        × ((k : ℕ) → from ≤ k → k < a → may_write member.header k ≡ true)) }
 {
-    (from..to).find(|a| !may_write(header, *a))
+    if !member_may_write(member, from) {
+        return Some(from);
+    }
+    if from + 1 < to && !member_may_write(member, from + 1) {
+        return Some(from + 1);
+    }
+    None
 }
 
 // Where the write goes on to that has come to `end`, where the two are the same: behind the next differing bytes, if they join.
-fn further(header: Header, settings: &[u8; 908], image: &[u8; 908], end: usize) -> Option<usize>
+fn further(member: Member, settings: &[u8; 908], image: &[u8; 908], end: usize) -> Option<usize>
     requires { (0 < end) × (end ≤ 908) × (end < 908 → get_or settings.now end 0 ≡ get_or image.now end 0) }
     ensures placed { IfSome result (λ next. GoesTo settings.now image.now end next) }
-    ensures further { Whole (record_of header settings.now image.now) →
-        MatchOption result (Closed (marks_of (record_of header settings.now image.now)) end)
-        (λ next. Extends (marks_of (record_of header settings.now image.now)) end next) }
+    ensures further { Whole (record_of member.header settings.now image.now) →
+        MatchOption result (Closed (marks_of (record_of member.header settings.now image.now)) end)
+        (λ next. Extends (marks_of (record_of member.header settings.now image.now)) end next) }
 {
     let next = near(settings, image, end)?;
-    match hole(header, end, next) {
+    match hole(member, end, next) {
         Some(_) => None,
         None => Some(past_differing(settings, image, next + 1)),
     }
 }
 
 // Where the write ends that has come to `from`.
-fn write_end(header: Header, settings: &[u8; 908], image: &[u8; 908], from: usize) -> usize
+fn write_end(member: Member, settings: &[u8; 908], image: &[u8; 908], from: usize) -> usize
     requires { (0 < from) × (from ≤ 908) }
-    ensures { (from ≤ result) × (result ≤ 908) × (Whole (record_of header settings.now image.now) →
-        WriteEnd (marks_of (record_of header settings.now image.now)) from result) }
+    ensures { (from ≤ result) × (result ≤ 908) × (Whole (record_of member.header settings.now image.now) →
+        WriteEnd (marks_of (record_of member.header settings.now image.now)) from result) }
 {
     let mut end = past_differing(settings, image, from);
-    while let Some(next) = further(header, settings, image, end) {
+    while let Some(next) = further(member, settings, image, end) {
         end = next;
     }
     end
@@ -138,7 +166,7 @@ pub fn next_write(r: RecordRef<'_>, from: usize) -> Option<Write>
     let start = first_differing(settings, image, from.max(1))?;
     Some(Write {
         start,
-        end: write_end(r.header, settings, image, start + 1),
+        end: write_end(member_of(r.header), settings, image, start + 1),
     })
 }
 

@@ -16,4 +16,4 @@ pub returns-clause-next_write : goal.returns-clause-next_write
 returns-clause-next_write c w =
     let es : c.in_ok-settings.settings.now ≡ c.args.r.settings.now = search rules in
     let ei : c.in_ok-image.image.now ≡ c.args.r.image.now = search rules in
-    next_found _ _ _ w _ _ (λ a l p. omega (arith, c.max.ensures)) _ _ (omega (arith, c.max.ensures)) (rw (es, ei) at c.in_ok-start.ensures) ((rw (es, ei) at c.write_end.ensures.2) w)
+    next_found _ _ _ w _ _ (λ a l p. omega (arith, c.max.ensures)) _ _ (omega (arith, c.max.ensures)) (rw (es, ei) at c.in_ok-start.ensures) ((rw (es, ei, c.member_of.ensures) at c.write_end.ensures.2) w)

@@ -12,7 +12,7 @@ use Rattle.writes.proofs.scan.write_end.Given as goal
 abbrev pub invariant-loop-next : goal.invariant-loop-next
 invariant-loop-next l =
     (l.from ≤ l.end) × (l.end ≤ 908) × (l.end < 908 → get_or l.settings l.end 0 ≡ get_or l.image l.end 0) ×
-    (Whole (record_of l.header l.settings l.image) → Extends (marks_of (record_of l.header l.settings l.image)) l.from l.end)
+    (Whole (record_of l.member.header l.settings l.image) → Extends (marks_of (record_of l.member.header l.settings l.image)) l.from l.end)
 
 abbrev pub decreases-loop-next : goal.decreases-loop-next
 decreases-loop-next l = 908 - l.end
