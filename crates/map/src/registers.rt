@@ -59,7 +59,9 @@ fn group_reserved(lines: usize, columns: u32, x: usize) -> u8
     }
 }
 
+// Not inlined: its eight terms would have `reserved_as` save registers for every kind, six instructions more for each byte of a scan.
 #[tactic(auto, unfolding(crate::specs::Map::switch_reserved))]
+#[inline(never)]
 fn switch_reserved(lines: usize, columns: u32, x: usize) -> u8
     ensures { result ≡ switch_reserved lines columns x }
 {
