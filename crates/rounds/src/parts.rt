@@ -39,7 +39,9 @@ fn next_waiting(r: RecordRef<'_>, from: usize) -> Option<Write>
     next_planned(r, 1)
 }
 
-// So much of the next write as fits behind two head bytes, if that is a data byte or more.
+// So much of the next write as fits behind two head bytes, if that is a data byte or more. Inlined in both loops, where its record and its
+// answer would otherwise go through memory for each write.
+#[inline(always)]
 fn next_part(r: RecordRef<'_>, from: usize, left: usize) -> Option<Write>
     requires { Sound (record_behind r) }
     ensures fits { IfSome result (Fits left) }
@@ -55,7 +57,8 @@ fn next_part(r: RecordRef<'_>, from: usize, left: usize) -> Option<Write>
     })
 }
 
-// The number of writes and the bus bytes of what fits so much room.
+// The number of writes and the bus bytes of what fits so much room. Not inlined, so that a place that is absent saves no registers for it.
+#[inline(never)]
 pub(crate) fn part_size(r: RecordRef<'_>, room: usize) -> Count
     requires sound { Sound (record_behind r) }
     requires narrow { room ≤ 8192 }
