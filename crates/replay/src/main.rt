@@ -7,7 +7,7 @@
 
 mod output;
 
-ghost use Rattle.std.specs.Prelude.{◌≡◌, false, cond, ◌++◌, ◌+◌, ◌≤◌, length, take, IsErr, IfOk, Ok};
+ghost use Rattle.std.specs.Prelude.{◌≡◌, false, cond, ◌++◌, ◌+◌, ◌≤◌, length, take, ltb, ℕ, IsErr, IsOk, IfOk, Ok};
 ghost use Rattle.player.specs.Play.{player_after, printed, longest_line};
 
 use output::Failed;
@@ -114,10 +114,11 @@ fn play_block(
     Ok(())
 }
 
-// Whether there may be more to read, after a block's text was written and so much was read; none where one of them failed.
+// Whether there may be more to read, after a block's text was written and so much was read; an error where one of them failed.
 fn more(written: Result<(), Failed>, got: Result<usize, Failed>) -> Result<bool, Failed>
     ensures not_written { IsErr written → IsErr result }
     ensures not_read { IsErr got → IsErr result }
+    ensures both { (n : ℕ) → IsOk written → got ≡ Ok n → result ≡ Ok (ltb 0 n) }
     ensures over { got ≡ Ok 0 → IfOk result (λ more. more ≡ false) }
 {
     written?;

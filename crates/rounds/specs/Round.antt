@@ -143,7 +143,7 @@ present_by marks = marked marks 0 ∷ marked marks 1 ∷ marked marks 2 ∷ mark
 abbrev pub at_place : {A : Type 0} → A → List A → ℕ → A
 at_place none xs k = get_or xs (min k 3) none
 
--- the mark and the record of a place; of an empty list nobody's
+-- the mark and the record of a place; where the list is too short, nobody's
 abbrev pub present_at : List Bool → ℕ → Bool
 present_at = at_place false
 
