@@ -14,7 +14,8 @@ use Rattle.rounds.specs.Dealing.{records_of, waiting_of, Waits, AllWait}
 pub place_same : (k : ℕ) → k < 4 → min k 3 ≡ k
 place_same k h = omega arith
 
-behind_at : (rs : List RecordRef) (k : ℕ) (r : RecordRef) → k < length rs → get_or (map record_behind rs) k no_record ≡ record_behind (get_or rs k r)
+-- what is lent at each place of a list of any length
+pub behind_at : (rs : List RecordRef) (k : ℕ) (r : RecordRef) → k < length rs → get_or (map record_behind rs) k no_record ≡ record_behind (get_or rs k r)
 behind_at [] k r h = absurd (omega arith)
 behind_at (x ∷ rs) zero r h = refl
 behind_at (x ∷ rs) (suc k) r h = behind_at rs k r (omega arith)
